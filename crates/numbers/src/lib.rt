@@ -1,0 +1,22 @@
+// The engine's numbers: signed 64-bit arithmetic, limits, rounding, and the square root.
+//
+// Each function's result is a formula over whole numbers, stated with the definitions of specs/.
+// A `requires` is a bound on the arguments; callers show it by the laws that stand beside the
+// definitions, and `proofs/Machine` has the step from a bound to the range of 64 bits.
+mod limits;
+mod roots;
+mod rounding;
+mod signed;
+
+pub use limits::clamp;
+pub use limits::clamp_word;
+pub use roots::root;
+pub use rounding::half_away;
+pub use rounding::half_up;
+pub use rounding::nearest_count;
+pub use rounding::scaled;
+pub use rounding::toward_zero;
+pub use rounding::units;
+pub use signed::difference;
+pub use signed::magnitude;
+pub use signed::with_sign;

@@ -1,0 +1,21 @@
+// The square root, rounded down.
+ghost use mathlib.Core.Path.{_≡_};
+ghost use Rattle.numbers.specs.Roots.{rootOf};
+
+// The greatest r with r × r at most v, a binary digit a round: v is at least the square of `low`
+// and below that of `low + step`.
+pub fn root(v: u32) -> u16
+    ensures { λ r. ⌜ r ≡ rootOf v ⌝ }
+{
+    let square = v as u64;
+    let mut low: u64 = 0;
+    let mut step: u64 = 65536;
+    for _ in 0u64..16 {
+        step = step / 2;
+        let next = low + step;
+        if next * next <= square {
+            low = next;
+        }
+    }
+    low as u16
+}

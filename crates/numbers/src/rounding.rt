@@ -1,0 +1,57 @@
+// Quotients rounded to whole numbers, and counts in units of 1/262,144.
+use crate::signed::magnitude;
+use crate::signed::to_signed;
+use crate::signed::to_unsigned;
+use crate::signed::with_sign;
+ghost use mathlib.Core.Path.{_≡_};
+ghost use Prim.Native.Nat.{_*_, _^_, _<_};
+ghost use lib.IntN.{pos, natAbs, _*ℤ_};
+ghost use lib.Signed.{_≤ℤ_};
+ghost use Rattle.numbers.specs.Rounding.{halfUp, halfAway, towardZero, unitsOf, nearestCount};
+
+// n / d to the nearest, halves up.
+pub fn half_up(n: u64, d: u64) -> u64
+    requires { ⌜ (n < 2 ^ 62) × ((0 < d) × (d < 2 ^ 62)) ⌝ }
+    ensures { λ r. ⌜ r ≡ halfUp n d ⌝ }
+{
+    (2 * n + d) / (2 * d)
+}
+
+// z / d to the nearest, halves away from zero.
+pub fn half_away(z: i64, d: u64) -> i64
+    requires { ⌜ (natAbs z < 2 ^ 62) × ((0 < d) × (d < 2 ^ 62)) ⌝ }
+    ensures { λ r. ⌜ r ≡ halfAway z d ⌝ }
+{
+    with_sign(z, half_up(magnitude(z), d))
+}
+
+// z / d, toward zero.
+pub fn toward_zero(z: i64, d: u64) -> i64
+    requires { ⌜ (natAbs z < 2 ^ 63) × (0 < d) ⌝ }
+    ensures { λ r. ⌜ r ≡ towardZero z d ⌝ }
+{
+    with_sign(z, magnitude(z) / d)
+}
+
+// k × z / d to the nearest, halves away from zero.
+pub fn scaled(k: u64, z: i64, d: u64) -> i64
+    requires { ⌜ (k < 2 ^ 62) × ((k * natAbs z < 2 ^ 62) × ((0 < d) × (d < 2 ^ 62))) ⌝ }
+    ensures { λ r. ⌜ r ≡ halfAway (pos k *ℤ z) d ⌝ }
+{
+    half_away(to_signed(k) * z, d)
+}
+
+// A count in units.
+pub fn units(count: u16) -> i64
+    ensures { λ r. ⌜ r ≡ pos (unitsOf count) ⌝ }
+{
+    to_signed((count as u64) * 262144)
+}
+
+// Units in the nearest count, halves up.
+pub fn nearest_count(x: i64) -> u16
+    requires { ⌜ (pos 0 ≤ℤ x) × (x ≤ℤ pos (unitsOf 65535)) ⌝ }
+    ensures { λ r. ⌜ r ≡ nearestCount (natAbs x) ⌝ }
+{
+    half_up(to_unsigned(x), 262144) as u16
+}
