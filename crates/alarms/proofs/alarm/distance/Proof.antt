@@ -1,0 +1,20 @@
+-- `alarms::distance` meets its contract: each arm rewrites with the test that led there.
+use borrow.Author.Needs.{needs}
+use borrow.Author.Tests.{lt-ltb, le-ltb}
+use Rattle.alarms.specs.Status.{apart}
+use Rattle.alarms.proofs.alarm.distance.Statement.{statement}
+use Rattle.alarms.proofs.alarm.distance.Tie as tie
+
+sub-result : tie.Need-sub-result
+sub-result c = search needs
+
+returns : tie.Need-returns
+unfolding apart
+returns c = simp (lt-ltb _ _ (c .if1 .taken))
+
+returns-2 : tie.Need-returns-2
+unfolding apart
+returns-2 c = simp (le-ltb _ _ (c .if1 .left))
+
+pub distance-spec : {M : Type 1} → statement M
+distance-spec = tie.close (tie.spec sub-result returns returns-2)

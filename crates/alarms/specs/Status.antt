@@ -1,0 +1,99 @@
+-- The status word, bit by bit, as document 01's paragraph on word 6 has it. Sums stand in the place of differences, so nothing wraps.
+use Prim.Native.Nat.{ℕ, _+_, _-_, _*_, _≤_}
+use mathlib.Core.Path.{_≡_}
+use mathlib.Core.Bool.{Bool, cond, not, _&&_, _||_}
+use mathlib.Core.List.{List, [], _∷_}
+use lib.Dec.{ltb, eqb}
+use Rattle.table.specs.declared.mode.Mode.{Mode}
+use Rattle.table.specs.declared.settings.Mode1.{Mode1}
+use Rattle.table.specs.declared.settings.AlarmLimits.{AlarmLimits}
+use Rattle.table.specs.declared.settings.OutputLimits.{OutputLimits}
+use Rattle.table.specs.Words.{bit}
+use Rattle.table.specs.Modes.{isManual, isAutomatic, isCascade}
+use Rattle.alarms.specs.declared.status.Seen.{Seen}
+use Rattle.alarms.specs.declared.status.Levels.{Levels}
+use Rattle.alarms.specs.declared.status.Status.{Status}
+pub mod Laws
+
+-- ---- single alarms
+
+-- on where x is above the limit; "once on, a high alarm stays while p > limit − hysteresis"
+abbrev pub highAlarm : Bool → ℕ → ℕ → ℕ → Bool
+highAlarm was limit hysteresis x = ltb limit x || (was && ltb limit (x + hysteresis))
+
+-- on where x is below the limit; once on, "a low one while p < limit + hysteresis"
+abbrev pub lowAlarm : Bool → ℕ → ℕ → ℕ → Bool
+lowAlarm was limit hysteresis x = ltb x limit || (was && ltb x (limit + hysteresis))
+
+-- |a − b|
+unfoldable pub apart : ℕ → ℕ → ℕ
+apart a b = cond (ltb a b) (b - a) (a - b)
+
+-- bit 10: "bit 12 set without low-low < low < high < high-high, or bit 13 without yellow < red and hysteresis < yellow"
+abbrev pub unordered : Mode1 → AlarmLimits → Bool
+unordered bits l =
+    (bits .level && not (ltb (l .lowlow) (l .low) && ltb (l .low) (l .high) && ltb (l .high) (l .highhigh)))
+    || (bits .deviation && not (ltb (l .yellow) (l .red) && ltb (l .hysteresis) (l .yellow)))
+
+-- bit 11: "outside Manual, word 5 equals an output limit and p differs from s"
+abbrev pub atLimit : Bool → OutputLimits → ℕ → ℕ → ℕ → Bool
+atLimit manual limits output setpoint pv = not manual && (eqb output (limits .low) || eqb output (limits .high)) && not (eqb pv setpoint)
+
+-- ---- the twelve bits
+
+-- "With bit 12: 3, 4 on where p is below low-low, low; 5, 6 above high, high-high"; "was on" is read from the stored word
+unfoldable pub levelsOf : Bool → AlarmLimits → ℕ → ℕ → Levels
+levelsOf on l stored pv = record {
+  lowlow = on && lowAlarm (bit 3 stored) (l .lowlow) (l .hysteresis) pv;
+  low = on && lowAlarm (bit 4 stored) (l .low) (l .hysteresis) pv;
+  high = on && highAlarm (bit 5 stored) (l .high) (l .hysteresis) pv;
+  highhigh = on && highAlarm (bit 6 stored) (l .highhigh) (l .hysteresis) pv;
+}
+
+-- "With bit 13, outside Manual: 7, 8 on where |s − p| is above yellow, red, with the same hold";
+-- "With bit 14: 9 where |p − recorded last PV| exceeds word 17, never at the first accepted sample"
+unfoldable pub statusOf : Mode → Mode1 → AlarmLimits → OutputLimits → ℕ → Seen → Status
+statusOf mode bits l output stored seen =
+    let deviation = apart (seen .setpoint) (seen .pv) in
+    record {
+      manual = isManual mode;
+      automatic = isAutomatic mode;
+      cascade = isCascade mode;
+      levels = levelsOf (bits .level) l stored (seen .pv);
+      yellow = bits .deviation && not (isManual mode) && highAlarm (bit 7 stored) (l .yellow) (l .hysteresis) deviation;
+      red = bits .deviation && not (isManual mode) && highAlarm (bit 8 stored) (l .red) (l .hysteresis) deviation;
+      change = bits .change && seen .sampled && ltb (l .change) (apart (seen .pv) (seen .last));
+      fault = unordered bits l;
+      saturated = atLimit (isManual mode) output (seen .output) (seen .setpoint) (seen .pv);
+    }
+
+-- ---- the word of the bits
+
+-- r is the number n, which is at most b
+pub record Small (r n b : ℕ) : Type 0 where
+  pub value : r ≡ n
+  pub small : r ≤ b
+
+abbrev pub number : Bool → ℕ
+number b = cond b 1 0
+
+-- the word whose bits, lowest first, are those of a list
+abbrev pub wordOf : List Bool → ℕ
+wordOf [] = 0
+wordOf (b ∷ l) = number b + 2 * wordOf l
+
+abbrev pub bitsOf : Status → List Bool
+bitsOf s =
+    s .manual
+    ∷ s .automatic
+    ∷ s .cascade
+    ∷ s .levels .lowlow
+    ∷ s .levels .low
+    ∷ s .levels .high
+    ∷ s .levels .highhigh
+    ∷ s .yellow
+    ∷ s .red
+    ∷ s .change
+    ∷ s .fault
+    ∷ s .saturated
+    ∷ []

@@ -1,0 +1,96 @@
+-- The starred cases of document 01, one table and one claim, computed of the definitions.
+use Prim.Native.Nat.{ℕ}
+use mathlib.Core.Path.{_≡_, refl}
+use mathlib.Core.List.{List, [], _∷_, _++_, map}
+use lib.ListN.{set, replicate, getD}
+use Rattle.numbers.specs.Limits.{clampBy}
+use Rattle.numbers.specs.Rounding.{halfUp, halfAway}
+use Rattle.numbers.specs.Roots.{rootWithin, rootOf}
+use Rattle.numbers.specs.Fractions.{over, negᶠ, roundTo}
+use Rattle.table.specs.Words.{bcd, badDigit}
+use Rattle.table.specs.Modes.{modeAfter}
+use Rattle.table.specs.Settings.{mode2Of, badDigits, tuningOf, settingsOf, remoteOf, readingOf}
+use Rattle.control.specs.Errors.{squaredOver, errorOf}
+use Rattle.control.specs.Terms.{exactP, exactI, exactD, exactTerms, termsOf}
+use Rattle.control.specs.Forms.{outsideOf, positionOf, velocityOf}
+use Rattle.alarms.specs.Status.{apart, levelsOf, statusOf}
+use Rattle.engine.specs.declared.record.Carried.{Carried}
+use Rattle.engine.specs.Records.{resetRecord, badRecord}
+use Rattle.engine.specs.Refusals.{badSetting, answerOf, numberOf}
+use Rattle.engine.specs.Steps.{pvOf, setpointOf, entering, heldOf, startOf, targetOf, errorIn, sensedOf, pastOf, positionInputs, velocityInputs, termsIn, movedPosition, movedVelocity, movedOf, drivenOf, outputWord, biasWord, statusWord, writtenOf, nextOf, stepOf}
+use Rattle.engine.specs.Samples.{writtenTo, sampleResult, sampleWords}
+
+-- a word stored, or a sample of loop 1
+data Call : Type 0 where
+  store : ℕ → ℕ → Call
+  sample : ℕ → Call
+
+-- the words and the record of loop 1
+record Loop : Type 0 where
+  words : List ℕ
+  carried : Carried
+
+after : Loop → Call → Loop
+after l (store address value) = record { words = set (l .words) address value; carried = l .carried }
+after l (sample raw) = record {
+  words = sampleWords (l .words) (l .carried) 1 raw;
+  carried = sampleResult (l .words) (l .carried) 1 raw .carried;
+}
+
+run : Loop → List Call → Loop
+run l [] = l
+run l (x ∷ xs) = run (after l x) xs
+
+reset : Loop
+reset = record { words = replicate 1024 0; carried = resetRecord }
+
+-- lines 1 to 6 with mode 1 as given, and line 7
+begun : ℕ → List Call
+begun mode1 = store 5 2000 ∷ store 25 4095 ∷ store 7 256 ∷ store 8 512 ∷ store 9 4096 ∷ store 0 mode1 ∷ sample 1000 ∷ []
+
+-- lines 8 and 9, and then PV 0, and then PV 1500
+line9 : List Call
+line9 = store 2 1500 ∷ sample 1000 ∷ []
+
+low : List Call
+low = sample 0 ∷ []
+
+back : List Call
+back = sample 1500 ∷ []
+
+-- what the words at some offsets are to be
+record Case : Type 0 where
+  calls : List Call
+  offsets : List ℕ
+  answers : List ℕ
+
+infix 20 _gives_at_
+_gives_at_ : List Call → List ℕ → List ℕ → Case
+calls gives answers at offsets = record { calls = calls; offsets = offsets; answers = answers }
+
+-- offsets: 2 setpoint, 3 PV, 4 bias, 5 output, 6 status. Mode 1 in the place of the automatic request: 16 reverse, 128 squared, 256 deadband,
+-- 1024 freeze; 34 is that request with velocity form.
+starred : List Case
+starred =
+    (begun 2 gives (1000 ∷ 1000 ∷ 2000 ∷ 2 ∷ []) at (2 ∷ 3 ∷ 5 ∷ 6 ∷ []))
+    ∷ ((begun 2 ++ line9) gives (1500 ∷ 1000 ∷ 2100 ∷ 3100 ∷ 2 ∷ []) at (2 ∷ 3 ∷ 4 ∷ 5 ∷ 6 ∷ []))
+    ∷ ((begun 2 ++ line9 ++ low) gives (4095 ∷ 1095 ∷ 0x0802 ∷ []) at (5 ∷ 4 ∷ 6 ∷ []))
+    ∷ ((begun 2 ++ line9 ++ low ++ back) gives (1095 ∷ []) at (5 ∷ []))
+    ∷ ((begun 2 ++ (store 0 1024 ∷ []) ++ line9 ++ low ++ back) gives (2100 ∷ []) at (5 ∷ []))
+    ∷ ((begun 2 ++ (store 9 0x9999 ∷ []) ++ line9) gives (3000 ∷ []) at (5 ∷ []))
+    ∷ ((begun 2 ++ (store 8 0 ∷ []) ++ line9) gives (2050 ∷ []) at (5 ∷ []))
+    ∷ ((begun 2 ++ (store 0 16 ∷ []) ++ line9) gives (900 ∷ []) at (5 ∷ []))
+    ∷ ((begun 2 ++ (store 0 128 ∷ []) ++ line9) gives (2134 ∷ []) at (5 ∷ []))
+    ∷ ((begun 2 ++ (store 0 256 ∷ store 19 501 ∷ []) ++ line9) gives (2000 ∷ []) at (5 ∷ []))
+    ∷ ((begun 2 ++ (store 0 256 ∷ store 19 500 ∷ []) ++ line9) gives (3100 ∷ []) at (5 ∷ []))
+    ∷ ((begun 34 ++ line9) gives (3100 ∷ []) at (5 ∷ []))
+    ∷ ((begun 2 ++ (store 10 256 ∷ store 2 1500 ∷ sample 1010 ∷ [])) gives (3058 ∷ []) at (5 ∷ []))
+    ∷ []
+
+given : Case → List ℕ
+given x = let words = run reset (x .calls) .words in map (λ (i : ℕ). getD words i 0) (x .offsets)
+
+-- each of the thirteen cases gives the paper's numbers
+all-starred : map given starred ≡ map (λ x. x .answers) starred
+unfolding clampBy halfUp halfAway rootWithin rootOf over negᶠ roundTo bcd badDigit modeAfter mode2Of badDigits tuningOf settingsOf remoteOf readingOf squaredOver errorOf exactP exactI exactD exactTerms termsOf outsideOf positionOf velocityOf apart levelsOf statusOf resetRecord badRecord badSetting answerOf pvOf setpointOf entering heldOf startOf targetOf errorIn sensedOf pastOf positionInputs velocityInputs termsIn movedPosition movedVelocity movedOf drivenOf outputWord biasWord statusWord writtenOf nextOf stepOf writtenTo sampleResult sampleWords after run reset begun line9 low back _gives_at_ starred given
+all-starred = refl

@@ -1,0 +1,15 @@
+// The engine: one sample of one loop, on the lent words and the loop's carried record.
+mod judge;
+mod record;
+mod refusal;
+mod sampling;
+mod step;
+
+pub use record::Carried;
+pub use record::Past;
+pub use record::reset_record;
+pub use refusal::Answer;
+pub use refusal::Refusal;
+pub use refusal::refusal_number;
+pub use sampling::Sampled;
+pub use sampling::sample;

@@ -1,0 +1,111 @@
+-- A loop's 32 words read as its settings, each word by its decimal offset; and all that a sample reads of the table.
+use Prim.Native.Nat.{ℕ}
+use mathlib.Core.Bool.{Bool, cond, _||_}
+use mathlib.Core.List.{List, [], _∷_}
+use lib.ListN.{getD}
+use Rattle.table.specs.declared.mode.Mode.{Mode}
+use Rattle.table.specs.declared.settings.Mode1.{Mode1}
+use Rattle.table.specs.declared.settings.Mode2.{Mode2}
+use Rattle.table.specs.declared.settings.Tuning.{Tuning}
+use Rattle.table.specs.declared.settings.AlarmLimits.{AlarmLimits}
+use Rattle.table.specs.declared.settings.OutputLimits.{OutputLimits}
+use Rattle.table.specs.declared.settings.Stored.{Stored}
+use Rattle.table.specs.declared.settings.Settings.{Settings}
+use Rattle.table.specs.declared.settings.Reading.{Reading}
+use Rattle.table.specs.Words.{bit, bcd, badDigit, formatOf, blockAt, any}
+use Rattle.table.specs.Modes.{isCascade, modeAfter}
+pub mod Laws
+
+-- mode 1, word 0
+abbrev pub mode1Of : ℕ → Mode1
+mode1Of word = record {
+  manual = bit 0 word;
+  automatic = bit 1 word;
+  cascade = bit 2 word;
+  bumpless = bit 3 word;
+  reverse = bit 4 word;
+  velocity = bit 5 word;
+  root = bit 6 word;
+  squared = bit 7 word;
+  deadband = bit 8 word;
+  limited = bit 9 word;
+  freeze = bit 10 word;
+  profile = bit 11 word;
+  level = bit 12 word;
+  deviation = bit 13 word;
+  change = bit 14 word;
+}
+
+-- "a mode 2 bit other than 1, 4, 8, 9"
+abbrev pub unusedBits : ℕ → Bool
+unusedBits word =
+    any
+    (bit 0 word
+    ∷ bit 2 word
+    ∷ bit 3 word
+    ∷ bit 5 word
+    ∷ bit 6 word
+    ∷ bit 7 word
+    ∷ bit 10 word
+    ∷ bit 11 word
+    ∷ bit 12 word
+    ∷ bit 13 word
+    ∷ bit 14 word
+    ∷ bit 15 word
+    ∷ [])
+
+-- mode 2, word 1
+unfoldable pub mode2Of : ℕ → Mode2
+mode2Of word = record { format = formatOf word; minutes = bit 4 word; unused = unusedBits word }
+
+-- words 7 to 10
+unfoldable pub badDigits : List ℕ → Bool
+badDigits w = badDigit (getD w 7 0) || badDigit (getD w 8 0) || badDigit (getD w 9 0) || badDigit (getD w 10 0)
+
+unfoldable pub tuningOf : List ℕ → Tuning
+tuningOf w = record { period = bcd (getD w 7 0); gain = bcd (getD w 8 0); reset = bcd (getD w 9 0); rate = bcd (getD w 10 0) }
+
+-- words 11 to 18
+abbrev pub alarmLimitsOf : List ℕ → AlarmLimits
+alarmLimitsOf w = record {
+  lowlow = getD w 11 0;
+  low = getD w 12 0;
+  high = getD w 13 0;
+  highhigh = getD w 14 0;
+  yellow = getD w 15 0;
+  red = getD w 16 0;
+  change = getD w 17 0;
+  hysteresis = getD w 18 0;
+}
+
+-- words 24 and 25
+abbrev pub outputLimitsOf : List ℕ → OutputLimits
+outputLimitsOf w = record { low = getD w 24 0; high = getD w 25 0 }
+
+-- words 0, 2, 4, 5 and 6
+abbrev pub storedOf : List ℕ → Stored
+storedOf w = record { word = getD w 0 0; setpoint = getD w 2 0; bias = getD w 4 0; output = getD w 5 0; status = getD w 6 0 }
+
+unfoldable pub settingsOf : List ℕ → Settings
+settingsOf w = record {
+  stored = storedOf w;
+  mode1 = mode1Of (getD w 0 0);
+  mode2 = mode2Of (getD w 1 0);
+  digits = badDigits w;
+  tuning = tuningOf w;
+  alarms = alarmLimitsOf w;
+  limits = outputLimitsOf w;
+  deadband = getD w 19 0;
+  pointer = getD w 26 0;
+}
+
+-- in Cascade, the word at the pointer
+unfoldable pub remoteOf : List ℕ → Mode → ℕ → ℕ
+remoteOf words mode pointer = cond (isCascade mode) (getD words pointer 0) 0
+
+-- all that a sample of the loop at `base` reads of the table, `former` being the loop's mode so far
+unfoldable pub readingOf : List ℕ → ℕ → Mode → Reading
+readingOf words base former =
+    let s = settingsOf (blockAt words base) in
+    let mode = modeAfter (s .mode1) former in
+    record { settings = s; mode = mode; remote = remoteOf words mode (s .pointer) }

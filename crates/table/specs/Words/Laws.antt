@@ -1,0 +1,78 @@
+-- The laws of words and of lists of tests.
+use Prim.Native.Nat.{ℕ, zero, suc, _+_, _*_, _/_, _%_, _^_, _≤_, _<_}
+use native.Mathlib.Omega.{arith}
+use native.Mathlib.Nat.{add-sub-of-le}
+use mathlib.Core.Path.{_≡_, refl}
+use mathlib.Core.Bool.{Bool, true, false, cond, _||_}
+use mathlib.Core.List.{List, [], _∷_}
+use lib.ListN.{length, getD, length-take, length-drop}
+use lib.Seq.{getD-take, getD-drop}
+use lib.Pow.{shl-shr, shr-shr}
+use lib.Dec.{ltb}
+use borrow.Author.Tests.{ltb-false}
+use Rattle.table.specs.declared.format.Format.{Format}
+use Rattle.table.specs.Words.{bit, bcd, badDigit, clearRequests, formatOf, blockAt, any, anyAfter}
+
+or-false : (a b : Bool) → (a || b) ≡ false → (a ≡ false) × (b ≡ false)
+or-false true b e = let z : true ≡ false = e in (z, cc)
+or-false false b e = (refl, e)
+
+test-at : (x : Bool) (l : List Bool) → x ≡ false → ((i : ℕ) → getD l i false ≡ false) → (i : ℕ) → getD (x ∷ l) i false ≡ false
+test-at x l p q zero = p
+test-at x l p q (suc i) = q i
+
+none-after : (l : List Bool) (b : Bool) → anyAfter b l ≡ false → (b ≡ false) × ((i : ℕ) → getD l i false ≡ false)
+none-after [] b e = (e, λ i. refl)
+none-after (x ∷ l) b e =
+    let p = none-after l (b || x) e in
+    let q = or-false b x (p .0) in
+    (q .0, test-at x l (q .1) (p .1))
+
+-- where no test of a list holds, each is false
+pub none-at : (l : List Bool) → any l ≡ false → (i : ℕ) → getD l i false ≡ false
+none-at [] e i = refl
+none-at (x ∷ l) e i = let p = none-after l x e in test-at x l (p .0) (p .1) i
+
+-- four good digits are at most 9,999
+pub bcd-high : (word : ℕ) → badDigit word ≡ false → bcd word ≤ 9999
+unfolding bcd badDigit
+bcd-high word e =
+    let f = none-at (ltb 9 (word / 4096 % 16) ∷ ltb 9 (word / 256 % 16) ∷ ltb 9 (word / 16 % 16) ∷ ltb 9 (word % 16) ∷ []) e in
+    omega (arith, ltb-false, f 0, f 1, f 2, f 3)
+
+chosen : (P : ℕ → Type 0) (b : Bool) {f g : Format} → P (f .scale) → P (g .scale) → P (cond b f g .scale)
+chosen P true p q = p
+chosen P false p q = q
+
+-- what holds of the three full scales holds of a word's
+scale-is : (P : ℕ → Type 0) → P 65535 → P 32767 → P 4095 → (word : ℕ) → P (formatOf word .scale)
+scale-is P p q r word = chosen P (bit 9 word) p (chosen P (bit 1 word) q r)
+
+-- a full scale is a word, and not 0
+pub scale-high : (word : ℕ) → formatOf word .scale ≤ 65535
+scale-high word = scale-is (λ n. n ≤ 65535) (omega arith) (omega arith) (omega arith) word
+
+pub scale-low : (word : ℕ) → 4095 ≤ formatOf word .scale
+scale-low word = scale-is (λ n. 4095 ≤ n) (omega arith) (omega arith) (omega arith) word
+
+even : (word k : ℕ) → k < 3 → word / 8 * 8 / 2 ^ k % 2 ≡ 0
+even word zero h = omega arith
+even word (suc zero) h = omega arith
+even word (suc (suc zero)) h = omega arith
+even word (suc (suc (suc k))) h = omega arith
+
+-- bits 0 to 2, the requests, are cleared
+pub clear-low : (word k : ℕ) → k < 3 → bit k (clearRequests word) ≡ false
+clear-low word k h = rw (even word k h)
+
+-- the other bits are kept
+pub clear-high : (word k : ℕ) → 3 ≤ k → bit k (clearRequests word) ≡ bit k word
+clear-high word k h = rw (← add-sub-of-le h, ← shr-shr word 3, ← shr-shr (word / 8 * 8) 3, shl-shr (word / 8) 3)
+
+-- word i of a block is word base + i of the table
+pub block-at : (words : List ℕ) (base i : ℕ) → i < 32 → getD (blockAt words base) i 0 ≡ getD words (base + i) 0
+block-at words base i h = rw (getD-take, getD-drop)
+
+-- a block that ends within the table has 32 words
+pub block-length : (words : List ℕ) (base : ℕ) → base + 32 ≤ length words → length (blockAt words base) ≡ 32
+block-length words base h = simp (length-take, length-drop) (omega arith)

@@ -1,0 +1,24 @@
+// A loop's 32 words of the lent table, read as its settings.
+//
+// Everything that a sample reads of the words goes through one function, `read_loop`: so a sample's
+// answer depends on what that reads, and on nothing else of the table.
+mod format;
+mod mode;
+mod settings;
+mod words;
+
+pub use format::Format;
+pub use mode::Mode;
+pub use mode::is_automatic;
+pub use mode::is_cascade;
+pub use mode::is_manual;
+pub use settings::AlarmLimits;
+pub use settings::Mode1;
+pub use settings::Mode2;
+pub use settings::OutputLimits;
+pub use settings::Reading;
+pub use settings::Settings;
+pub use settings::Stored;
+pub use settings::Tuning;
+pub use settings::read_loop;
+pub use words::clear_requests;
