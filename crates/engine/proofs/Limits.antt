@@ -31,7 +31,7 @@ pub record Between (lo hi x : ℕ) : Type 0 where
   pub high : x ≤ hi
 
 -- the output word that the moves give
-word-inside : (manual : Bool) {s : Settings} {drive : Drive} {past : Past} {p : ℕ} {e : ℤ} → Movable s drive past p e
+pub word-inside : (manual : Bool) {s : Settings} {drive : Drive} {past : Past} {p : ℕ} {e : ℤ} → Movable s drive past p e
     → Between (s .limits .low) (s .limits .high) (outputWord manual (heldOf s) (movedOf s manual drive past p e .output))
 unfolding outputWord
 word-inside true {s} m = record { low = held-low s (m .limits); high = held-high s (m .limits) }

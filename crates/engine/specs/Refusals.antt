@@ -11,7 +11,7 @@ use Rattle.table.specs.Modes.{isCascade}
 use Rattle.table.specs.Settings.{readingOf}
 use Rattle.engine.specs.declared.record.Carried.{Carried}
 use Rattle.engine.specs.declared.refusal.Refusal.{Refusal}
-use Rattle.engine.specs.declared.refusal.Refusal.the-variants.{Memory, Loop, Record, Digit, Setting, Above}
+use Rattle.engine.specs.declared.refusal.Refusal.the-variants.{Memory, Loop, Record, Address, Digit, Setting, Above}
 use Rattle.engine.specs.declared.refusal.Answer.{Answer}
 use Rattle.engine.specs.declared.refusal.Answer.the-variants.{Accepted, Refused}
 use Rattle.engine.specs.Records.{badRecord}
@@ -22,6 +22,7 @@ abbrev pub numberOfRefusal : Refusal → ℕ
 numberOfRefusal Memory = 5
 numberOfRefusal Loop = 4
 numberOfRefusal Record = 5
+numberOfRefusal Address = 6
 numberOfRefusal Digit = 7
 numberOfRefusal Setting = 8
 numberOfRefusal Above = 9

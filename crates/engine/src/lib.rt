@@ -1,9 +1,11 @@
-// The engine: one sample of one loop, on the lent words and the loop's carried record.
+// The engine: a word stored, and one sample of one loop, on the lent words and the loop's carried
+// record.
 mod judge;
 mod record;
 mod refusal;
 mod sampling;
 mod step;
+mod storing;
 
 pub use record::Carried;
 pub use record::Past;
@@ -13,3 +15,4 @@ pub use refusal::Refusal;
 pub use refusal::refusal_number;
 pub use sampling::Sampled;
 pub use sampling::sample;
+pub use storing::store;

@@ -16,7 +16,7 @@ pub struct Carried {
     pub drive: Drive,
     pub past: Past,
     pub velocity: bool, // the last algorithm: velocity form, else position
-    pub sampled: bool,  // whether a sample was ever accepted
+    pub sampled: bool, // whether a sample was ever accepted
 }
 
 // The record of a loop at reset.

@@ -37,26 +37,41 @@ pub fn sample(words: &mut [u16], carried: Carried, number: u8, raw: u16) -> Samp
     ensures numbered { λ r. ⌜ numberOf (r .answer) ≡ firstNumber (sampleCases (now (words .entry)) carried number raw) ⌝ }
 {
     if words.len() != 1024 {
-        return Sampled { answer: Answer::Refused(Refusal::Memory), carried };
+        return Sampled {
+            answer: Answer::Refused(Refusal::Memory),
+            carried,
+        };
     }
     if number < 1 {
-        return Sampled { answer: Answer::Refused(Refusal::Loop), carried };
+        return Sampled {
+            answer: Answer::Refused(Refusal::Loop),
+            carried,
+        };
     }
     if 16 < number {
-        return Sampled { answer: Answer::Refused(Refusal::Loop), carried };
+        return Sampled {
+            answer: Answer::Refused(Refusal::Loop),
+            carried,
+        };
     }
     let base = 32 * (number as usize - 1);
     let former = carried.mode;
     let reading = table::read_loop(words, base, former);
     let answer = judge(reading, carried, raw);
     match answer {
-        Answer::Refused(why) => Sampled { answer: Answer::Refused(why), carried },
+        Answer::Refused(why) => Sampled {
+            answer: Answer::Refused(why),
+            carried,
+        },
         Answer::Accepted => {
             let done = step(reading, carried, raw);
             let written = done.written;
             write_back(words, base, written);
             let next = done.carried;
-            Sampled { answer: Answer::Accepted, carried: next }
+            Sampled {
+                answer: Answer::Accepted,
+                carried: next,
+            }
         }
     }
 }

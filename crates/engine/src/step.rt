@@ -100,7 +100,10 @@ pub fn started(entry: bool, held: u16, drive: Drive) -> Drive
 {
     if entry {
         let units = numbers::units(held);
-        Drive { bias: units, output: units }
+        Drive {
+            bias: units,
+            output: units,
+        }
     } else {
         drive
     }
@@ -145,12 +148,15 @@ pub fn past_for(fresh: bool, kept: Past, pv: u16, error: i64) -> Past
     ensures { λ r. ⌜ r ≡ pastOf fresh kept pv error ⌝ }
 {
     if fresh {
-        Past { last: pv, prior: pv, error }
+        Past {
+            last: pv,
+            prior: pv,
+            error,
+        }
     } else {
         kept
     }
 }
-
 
 // Steps 7 to 9: the bias and output after the sample. Manual runs no terms.
 pub fn moved(s: Settings, manual: bool, drive: Drive, past: Past, pv: u16, e: i64) -> Drive
@@ -317,7 +323,13 @@ pub fn status_after(reading: Reading, carried: Carried, sensed: Sensed, output: 
 }
 
 // The words that the sample writes.
-pub fn words_after(reading: Reading, carried: Carried, sensed: Sensed, held: u16, drive: Drive) -> Written
+pub fn words_after(
+    reading: Reading,
+    carried: Carried,
+    sensed: Sensed,
+    held: u16,
+    drive: Drive,
+) -> Written
     requires { ⌜ Counted (drive .output) ⌝ }
     ensures { λ r. ⌜ r ≡ writtenOf reading carried sensed held drive ⌝ }
 {

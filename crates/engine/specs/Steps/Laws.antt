@@ -98,7 +98,7 @@ unfolding pvOf
 pv-high root {scale} {raw} h l =
     by-test (λ p. p ≤ scale) root
     (λ _. root-high (root-exact (raw * scale) (omega (arith, mul-le-mul {n₁ = raw} {m₁ = scale} {n₂ = 65535} {m₂ = 65535} (omega arith) h)))
-      scale (omega (arith, mul-le-mul-right scale l)))
+    scale (omega (arith, mul-le-mul-right scale l)))
     (λ _. l)
 
 pub target-high : (r : Reading) (entry : Bool) {p scale : ℕ} → p ≤ scale → setpointOf r ≤ scale → targetOf r entry p ≤ scale

@@ -40,7 +40,7 @@ returns-2 c =
     let a = c .before .before .before .args in
     let e : 6000 * a .reset ≡ 100 * (60 * a .reset) = omega arith in
     simp (ne-eqb _ _ (c .before .before .if1 .left), c .before .if2 .taken)
-    (via (c .term .result) (search needs) (c .term .ensures ∙ rw e (search needs)))
+    (via (c .term .result) (search needs) (c .term .ensures ∙ rw (← e) (search needs)))
 
 returns-3 : tie.Need-returns-3
 unfolding exactI
