@@ -16,10 +16,6 @@ withSign (negsuc n) m = negℤ (pos m)
 unfoldable pub halfAway : ℤ → ℕ → ℤ
 halfAway z d = withSign z (halfUp (natAbs z) d)
 
--- z / d to a whole number, toward zero
-unfoldable pub towardZero : ℤ → ℕ → ℤ
-towardZero z d = withSign z (natAbs z / d)
-
 -- a count is 262,144 units
 abbrev pub unitsOf : ℕ → ℕ
 unitsOf count = count * 262144

@@ -15,7 +15,6 @@ pub use rounding::half_away;
 pub use rounding::half_up;
 pub use rounding::nearest_count;
 pub use rounding::scaled;
-pub use rounding::toward_zero;
 pub use rounding::units;
 pub use signed::difference;
 pub use signed::magnitude;

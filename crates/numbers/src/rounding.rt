@@ -7,7 +7,7 @@ ghost use mathlib.Core.Path.{_≡_};
 ghost use Prim.Native.Nat.{_*_, _^_, _<_};
 ghost use lib.IntN.{pos, natAbs, _*ℤ_};
 ghost use lib.Signed.{_≤ℤ_};
-ghost use Rattle.numbers.specs.Rounding.{halfUp, halfAway, towardZero, unitsOf, nearestCount};
+ghost use Rattle.numbers.specs.Rounding.{halfUp, halfAway, unitsOf, nearestCount};
 
 // n / d to the nearest, halves up.
 pub fn half_up(n: u64, d: u64) -> u64
@@ -23,14 +23,6 @@ pub fn half_away(z: i64, d: u64) -> i64
     ensures { λ r. ⌜ r ≡ halfAway z d ⌝ }
 {
     with_sign(z, half_up(magnitude(z), d))
-}
-
-// z / d, toward zero.
-pub fn toward_zero(z: i64, d: u64) -> i64
-    requires { ⌜ (natAbs z < 2 ^ 63) × (0 < d) ⌝ }
-    ensures { λ r. ⌜ r ≡ towardZero z d ⌝ }
-{
-    with_sign(z, magnitude(z) / d)
 }
 
 // k × z / d to the nearest, halves away from zero.

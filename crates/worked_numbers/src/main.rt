@@ -7,7 +7,6 @@ fn main() {
     roots();
     halves_up();
     halves_away();
-    toward_zero();
     scaled();
     counts();
     signed();
@@ -62,20 +61,6 @@ fn halves_away() {
     say_signed(
         b"half_away -(2^62-1) 1",
         numbers::half_away(-4611686018427387903, 1),
-    );
-}
-
-fn toward_zero() {
-    say_signed(b"toward_zero 7 4", numbers::toward_zero(7, 4));
-    say_signed(b"toward_zero -7 4", numbers::toward_zero(-7, 4));
-    say_signed(b"toward_zero -3 4", numbers::toward_zero(-3, 4));
-    say_signed(
-        b"toward_zero 2^63-1 1",
-        numbers::toward_zero(9223372036854775807, 1),
-    );
-    say_signed(
-        b"toward_zero -(2^63-1) 1",
-        numbers::toward_zero(-9223372036854775807, 1),
     );
 }
 

@@ -6,7 +6,7 @@ use native.Mathlib.Nat.{mul-pos, div-zero, div-eq-of-lt-le, div-mul-le-self, lt-
 use lib.IntN.{ℤ, pos, negsuc, negℤ, natAbs, _-ℤ_, _*ℤ_, negℤ-negℤ}
 use lib.Signed.{_≤ℤ_, _<ℤ_}
 use Rattle.numbers.specs.Whole.{linear, le-out, lt-out, neg, sub, scale-neg, abs-in, abs-neg}
-use Rattle.numbers.specs.Rounding.{halfUp, withSign, halfAway, towardZero}
+use Rattle.numbers.specs.Rounding.{halfUp, withSign, halfAway}
 
 -- ---- halves up
 
@@ -133,9 +133,3 @@ half-away-low z {d} p lo h = omega (arith, linear, half-away-whole lo p, half-aw
 
 pub half-away-high : (z : ℤ) {d : ℕ} → 0 < d → (hi : ℤ) → z ≤ℤ (pos d *ℤ hi) → halfAway z d ≤ℤ hi
 half-away-high z {d} p hi h = omega (arith, linear, half-away-whole hi p, half-away-mono h d)
-
--- ---- toward zero
-
-pub toward-zero-abs : (z : ℤ) (d : ℕ) → natAbs (towardZero z d) ≡ natAbs z / d
-unfolding towardZero
-toward-zero-abs z d = sign-abs z (natAbs z / d)

@@ -1,0 +1,58 @@
+-- `reader::read_record` meets its contract: each return is the case of `recordAt` that the two tests of `isCut` pick.
+use borrow.Author.Tests.{lt-ltb, le-ltb}
+use borrow.Author.Needs.{needs}
+use Rattle.reader.specs.File.{recordAt}
+use Rattle.reader.proofs.read_record.Statement.{statement}
+use Rattle.reader.proofs.read_record.Tie as tie
+
+bytes-left-requires : tie.Need-bytes-left-requires
+bytes-left-requires c κs = search needs
+
+word-requires : tie.Need-word-requires
+word-requires c κs = search needs
+
+cast-n : tie.Need-cast-n
+cast-n c = search needs
+
+add-behind : tie.Need-add-behind
+add-behind c = search needs
+
+whole-requires : tie.Need-whole-requires
+whole-requires c κs = search needs
+
+add-t11 : tie.Need-add-t11
+add-t11 c = search needs
+
+returns : tie.Need-returns
+unfolding recordAt
+returns c =
+    let w = c .before .before in
+    let two = w .before in
+    let bytes = two .before .bytes-left .ensures in
+    simp (← bytes, ← w .word .ensures, le-ltb _ _ (two .if1 .taken), le-ltb _ _ (c .before .if2 .taken), c .whole .ensures)
+
+returns-2 : tie.Need-returns-2
+unfolding recordAt
+returns-2 c =
+    let w = c .before in
+    let two = w .before in
+    let bytes = two .before .bytes-left .ensures in
+    simp (← bytes, ← w .word .ensures, le-ltb _ _ (two .if1 .taken), lt-ltb _ _ (c .if2 .left))
+
+returns-3 : tie.Need-returns-3
+unfolding recordAt
+returns-3 c = simp (← c .before .bytes-left .ensures, lt-ltb _ _ (c .if1 .left))
+
+pub read-record-spec : {M : Type 1} → statement M
+read-record-spec =
+    tie.close
+    (tie.spec
+    bytes-left-requires
+    word-requires
+    cast-n
+    add-behind
+    whole-requires
+    add-t11
+    returns
+    returns-2
+    returns-3)

@@ -1,0 +1,84 @@
+-- A drill file as its records: document 01, "Drill file", sentence by sentence. A file is a list of bytes.
+-- The laws of these definitions are in `File/Laws`.
+use Prim.Native.Nat.{ℕ, zero, suc, _+_, _*_, _-_}
+use mathlib.Core.Bool.{Bool, cond, not, _||_}
+use mathlib.Core.List.{List, [], _∷_, map}
+use lib.ListN.{length, getD}
+use lib.Seq.{slice}
+use lib.Dec.{ltb, eqb}
+use Rattle.reader.specs.declared.Fault.{Fault}
+use Rattle.reader.specs.declared.Fault.the-variants.{Cut, Kind, Length}
+use Rattle.reader.specs.declared.Record.{Record}
+use Rattle.reader.specs.declared.Record.the-variants.{Store, Sample, Refused}
+use Rattle.reader.specs.declared.Step.{Step}
+pub mod Laws
+
+-- the table's number of each refusal
+abbrev pub numberOfFault : Fault → ℕ
+numberOfFault Cut = 1
+numberOfFault Kind = 2
+numberOfFault Length = 3
+
+-- "two bytes, little-endian"
+abbrev pub wordAt : List ℕ → ℕ → ℕ
+wordAt s at = getD s at 0 + 256 * getD s (at + 1) 0
+
+-- "Kind 1 stores: address, value, two bytes each, little-endian". The kind stands at `at`
+abbrev pub storeAt : List ℕ → ℕ → Record
+storeAt s at = Store (wordAt s (at + 2)) (wordAt s (at + 4))
+
+-- "Kind 2 samples: loop (one byte), raw PV (two bytes)"
+abbrev pub sampleAt : List ℕ → ℕ → Record
+sampleAt s at = Sample (getD s (at + 2) 0) (wordAt s (at + 3))
+
+-- refusal 2: "length below 2, or kind neither 1 nor 2". n is the length
+abbrev pub noKind : List ℕ → ℕ → ℕ → Bool
+noKind s at n = ltb n 2 || not (eqb (wordAt s at) 1 || eqb (wordAt s at) 2)
+
+-- refusal 3: "length not the kind's"
+abbrev pub ofLength : ℕ → ℕ → Record → Record
+ofLength m n item = cond (eqb n m) item (Refused Length)
+
+-- what stands behind a length: "kind (two bytes, little-endian), body". A store has "length 6", a sample "length 5"
+abbrev pub wholeAt : List ℕ → ℕ → ℕ → Record
+wholeAt s at n =
+    cond (noKind s at n) (Refused Kind)
+    (cond (eqb (wordAt s at) 1) (ofLength 6 n (storeAt s at)) (ofLength 5 n (sampleAt s at)))
+
+-- refusal 1: "one byte remains in place of a length, or fewer stand behind it than it says"
+abbrev pub isCut : List ℕ → ℕ → Bool
+isCut s at = ltb (length s - at) 2 || ltb (length s - at - 2) (wordAt s at)
+
+-- the record at a position, and the position behind it: "length (two bytes, little-endian, counts what follows it)".
+-- Refusal 1 "ends the file". "A refused record is skipped by its length."
+unfoldable pub recordAt : List ℕ → ℕ → Step
+recordAt s at =
+    cond (isCut s at) (record { item = Refused Cut; next = length s })
+    (record { item = wholeAt s (at + 2) (wordAt s at); next = at + 2 + wordAt s at })
+
+-- the positions of the records from a position on, each behind the record before. No bytes left: the end.
+-- `limit` bounds their number; the number of bytes left is enough
+unfoldable pub positionsWithin : ℕ → List ℕ → ℕ → List ℕ
+positionsWithin zero s at = []
+positionsWithin (suc limit) s at =
+    let more = at ∷ positionsWithin limit s (recordAt s at .next) in
+    cond (ltb at (length s)) more []
+
+unfoldable pub positionsFrom : List ℕ → ℕ → List ℕ
+positionsFrom s at = positionsWithin (length s - at) s at
+
+-- the records from a position on
+unfoldable pub recordsFrom : List ℕ → ℕ → List Record
+recordsFrom s at = map (λ p. recordAt s p .item) (positionsFrom s at)
+
+-- all records of a file
+abbrev pub recordsOf : List ℕ → List Record
+recordsOf s = recordsFrom s 0
+
+-- the bytes of each record from a position on
+unfoldable pub spansFrom : List ℕ → ℕ → List (List ℕ)
+spansFrom s at = map (λ p. slice p (recordAt s p .next) s) (positionsFrom s at)
+
+-- the bytes of each record of a file
+abbrev pub spansOf : List ℕ → List (List ℕ)
+spansOf s = spansFrom s 0

@@ -1,0 +1,126 @@
+// The drill file: the record that stands at a position, and the position behind it.
+//
+// A file is any list of bytes. Each record is its length, which counts what follows it, its kind
+// and its body. A reader starts at position 0 and goes on at `next` until the end of the file.
+ghost use mathlib.Core.Path.{_≡_};
+ghost use Prim.Native.Nat.{_+_, _*_, _-_, _≤_};
+ghost use lib.ListN.{length};
+ghost use Rattle.reader.specs.File.{numberOfFault, wordAt, storeAt, sampleAt, wholeAt, recordAt};
+
+// Why a record is refused: the file ends inside it; it has no kind, or none that is known; its
+// length is not its kind's.
+pub enum Fault {
+    Cut,
+    Kind,
+    Length,
+}
+
+// A store of an address and a value, a sample of a loop and a raw PV, or a refusal.
+pub enum Record {
+    Store(u16, u16),
+    Sample(u8, u16),
+    Refused(Fault),
+}
+
+// A record, and the position behind it.
+pub struct Step {
+    pub item: Record,
+    pub next: usize,
+}
+
+// The number of document 01's table.
+pub fn fault_number(f: Fault) -> u8
+    ensures { λ r. ⌜ r ≡ numberOfFault f ⌝ }
+{
+    match f {
+        Fault::Cut => 1,
+        Fault::Kind => 2,
+        Fault::Length => 3,
+    }
+}
+
+// Two bytes as a word.
+fn little_endian(low: u8, high: u8) -> u16
+    ensures { λ r. ⌜ r ≡ low + 256 * high ⌝ }
+{
+    low as u16 + 256 * (high as u16)
+}
+
+// The word at a position.
+fn word(file: &[u8], at: usize) -> u16
+    requires { ⌜ at + 2 ≤ length (now file) ⌝ }
+    ensures { λ r. ⌜ r ≡ wordAt (now (file .entry)) at ⌝ }
+{
+    little_endian(file[at], file[at + 1])
+}
+
+// Kind 1, a store: address, value. The position is the kind's.
+fn store(file: &[u8], at: usize) -> Record
+    requires { ⌜ at + 6 ≤ length (now file) ⌝ }
+    ensures { λ r. ⌜ r ≡ storeAt (now (file .entry)) at ⌝ }
+{
+    Record::Store(word(file, at + 2), word(file, at + 4))
+}
+
+// Kind 2, a sample: loop, raw PV.
+fn sample(file: &[u8], at: usize) -> Record
+    requires { ⌜ at + 5 ≤ length (now file) ⌝ }
+    ensures { λ r. ⌜ r ≡ sampleAt (now (file .entry)) at ⌝ }
+{
+    Record::Sample(file[at + 2], word(file, at + 3))
+}
+
+// The record of length n whose bytes are all there, by its kind.
+fn whole(file: &[u8], at: usize, n: usize) -> Record
+    requires { ⌜ at + n ≤ length (now file) ⌝ }
+    ensures { λ r. ⌜ r ≡ wholeAt (now (file .entry)) at n ⌝ }
+{
+    if n < 2 {
+        return Record::Refused(Fault::Kind);
+    }
+    match word(file, at) {
+        1 => {
+            if n == 6 {
+                store(file, at)
+            } else {
+                Record::Refused(Fault::Length)
+            }
+        }
+        2 => {
+            if n == 5 {
+                sample(file, at)
+            } else {
+                Record::Refused(Fault::Length)
+            }
+        }
+        _ => Record::Refused(Fault::Kind),
+    }
+}
+
+// How many bytes stand from a position on.
+fn bytes_left(file: &[u8], at: usize) -> usize
+    ensures { λ r. ⌜ r ≡ length (now (file .entry)) - at ⌝ }
+{
+    if at < file.len() { file.len() - at } else { 0 }
+}
+
+// The record at a position. A cut one ends the file.
+pub fn read_record(file: &[u8], at: usize) -> Step
+    ensures { λ r. ⌜ r ≡ recordAt (now (file .entry)) at ⌝ }
+{
+    let bytes = bytes_left(file, at);
+    if 2 <= bytes {
+        let n = word(file, at) as usize;
+        let behind = at + 2;
+        if n <= bytes - 2 {
+            return Step {
+                item: whole(file, behind, n),
+                next: behind + n,
+            };
+        }
+    }
+    Step {
+        item: Record::Refused(Fault::Cut),
+        next: file.len(),
+    }
+}
