@@ -12,14 +12,14 @@ use Rattle.table.specs.Modes.{isCascade}
 use Rattle.table.specs.Settings.{badDigits, tuningOf, settingsOf, remoteOf, readingOf}
 
 -- each tuning word is at most 9,999
-pub record Tuned (t : Tuning) : Type 0 where
+pub record Decimals (t : Tuning) : Type 0 where
   pub period : t .period ≤ 9999
   pub gain : t .gain ≤ 9999
   pub reset : t .reset ≤ 9999
   pub rate : t .rate ≤ 9999
 
 -- four words of good digits are at most 9,999 each
-pub tuning-high : (w : List ℕ) → badDigits w ≡ false → Tuned (tuningOf w)
+pub tuning-high : (w : List ℕ) → badDigits w ≡ false → Decimals (tuningOf w)
 unfolding badDigits tuningOf
 tuning-high w e =
     let f = none-at (badDigit (getD w 7 0) ∷ badDigit (getD w 8 0) ∷ badDigit (getD w 9 0) ∷ badDigit (getD w 10 0) ∷ []) e in
