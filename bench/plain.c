@@ -1,0 +1,230 @@
+/* The drill program in plain C, written straight from document 01 and apart from the Rattle sources:
+   what the benchmark compares `drill` with, line by line and in instructions. Nothing is proved of it. */
+#include <stdint.h>
+#include <stdio.h>
+#include <stdlib.h>
+
+#define UNIT 262144
+#define LONGEST 65536
+
+enum mode { MANUAL, AUTOMATIC, CASCADE };
+
+struct carried {
+    enum mode mode;
+    int64_t bias, output; /* units */
+    int32_t last, prior, error;
+    int velocity, sampled;
+};
+
+struct terms {
+    int64_t p, i, d;
+};
+
+static uint16_t words[1024];
+static struct carried records[16];
+
+static int bit(unsigned word, int n) { return word >> n & 1; }
+
+static int64_t clamp(int64_t x, int64_t low, int64_t high) { return x < low ? low : x > high ? high : x; }
+
+static int64_t distance(int64_t a, int64_t b) { return a < b ? b - a : a - b; }
+
+/* to the nearest, halves away from zero */
+static int64_t nearest(int64_t x, int64_t by) { return x < 0 ? -((-2 * x + by) / (2 * by)) : (2 * x + by) / (2 * by); }
+
+/* units in the nearest count, halves up; units are never below 0 here */
+static uint16_t counts(int64_t units) { return (uint16_t)((units + UNIT / 2) / UNIT); }
+
+/* four decimal digits, or -1 where one is above 9 */
+static int decimal(unsigned word) {
+    unsigned a = word >> 12, b = word >> 8 & 15, c = word >> 4 & 15, d = word & 15;
+    if (a > 9 || b > 9 || c > 9 || d > 9) return -1;
+    return (int)(1000 * a + 100 * b + 10 * c + d);
+}
+
+static uint32_t root(uint32_t v) {
+    uint32_t r = 0;
+    for (uint32_t step = 32768; step > 0; step /= 2) {
+        uint32_t t = r + step;
+        if (t * t <= v) r = t;
+    }
+    return r;
+}
+
+static uint32_t full_scale(unsigned mode2) { return bit(mode2, 9) ? 65535 : bit(mode2, 1) ? 32767 : 4095; }
+
+static enum mode mode_of(unsigned mode1, enum mode former) {
+    return bit(mode1, 0) ? MANUAL : bit(mode1, 1) ? AUTOMATIC : bit(mode1, 2) ? CASCADE : former;
+}
+
+static int out_of_range(const struct carried *c) {
+    const int64_t most = (int64_t)1 << 52;
+    return c->bias < -most || c->bias > most || c->output < 0 || c->output > (int64_t)65535 * UNIT || c->last < 0 || c->last > 65535
+        || c->prior < 0 || c->prior > 65535 || c->error < -65535 || c->error > 65535;
+}
+
+/* row 8 */
+static int setting_refused(const uint16_t *w, enum mode mode, uint32_t full, int period, int reset) {
+    unsigned m = w[0];
+    if (period < 5 || reset == 0 || w[24] > w[25] || w[25] > full) return 1;
+    if ((bit(m, 5) && bit(m, 3)) || bit(m, 9) || bit(m, 11) || (w[1] & ~0x312u)) return 1;
+    if ((bit(m, 12) || bit(m, 13)) && (w[18] < 1 || w[18] > 200)) return 1;
+    if (mode != CASCADE) return w[2] > full;
+    return w[26] > 1023 || words[w[26]] > full;
+}
+
+/* step 7 */
+static struct terms terms_of(const uint16_t *w, const int *tuning, int64_t ep, int64_t ei, int64_t change) {
+    int64_t period = tuning[0], gain = tuning[1], reset = tuning[2], rate = tuning[3], c = gain ? gain : 100;
+    struct terms t;
+    t.p = nearest(gain * ep * UNIT, 100);
+    t.i = reset == 9999 ? 0 : nearest(c * period * ei * UNIT, 100 * (bit(w[1], 4) ? 60 * reset : reset));
+    t.d = nearest(c * rate * change * UNIT, 100 * period);
+    if (bit(w[0], 4)) t.p = -t.p, t.i = -t.i, t.d = -t.d;
+    return t;
+}
+
+static int above(int on, int x, int limit, int hysteresis) { return x > limit || (on && x > limit - hysteresis); }
+
+static int below(int on, int x, int limit, int hysteresis) { return x < limit || (on && x < limit + hysteresis); }
+
+static unsigned status(const uint16_t *w, const struct carried *c, enum mode mode, int s, int p, int out) {
+    unsigned m = w[0], old = w[6], word = 1u << mode;
+    int h = w[18], apart = (int)distance(s, p);
+    if (bit(m, 12)) {
+        word |= below(bit(old, 3), p, w[11], h) << 3 | below(bit(old, 4), p, w[12], h) << 4;
+        word |= above(bit(old, 5), p, w[13], h) << 5 | above(bit(old, 6), p, w[14], h) << 6;
+        if (!(w[11] < w[12] && w[12] < w[13] && w[13] < w[14])) word |= 1 << 10;
+    }
+    if (bit(m, 13)) {
+        if (mode != MANUAL) word |= above(bit(old, 7), apart, w[15], h) << 7 | above(bit(old, 8), apart, w[16], h) << 8;
+        if (!(w[15] < w[16] && h < w[15])) word |= 1 << 10;
+    }
+    if (bit(m, 14) && c->sampled && distance(p, c->last) > w[17]) word |= 1 << 9;
+    if (mode != MANUAL && (out == w[24] || out == w[25]) && p != s) word |= 1 << 11;
+    return word;
+}
+
+static int sample(int k, uint32_t raw) {
+    if (k < 1 || k > 16) return 4;
+    struct carried *c = &records[k - 1];
+    if (out_of_range(c)) return 5;
+    uint16_t *w = words + 32 * (k - 1);
+    int tuning[4];
+    for (int n = 0; n < 4; n++)
+        if ((tuning[n] = decimal(w[7 + n])) < 0) return 7;
+    uint32_t full = full_scale(w[1]);
+    enum mode mode = mode_of(w[0], c->mode);
+    if (setting_refused(w, mode, full, tuning[0], tuning[2])) return 8;
+    if (raw > full) return 9;
+
+    int p = (int)(bit(w[0], 6) ? root(raw * full) : raw);
+    int s = mode == CASCADE ? words[w[26]] : w[2];
+    int velocity = bit(w[0], 5);
+    int entry = mode != MANUAL && (c->mode == MANUAL || c->velocity != velocity);
+    int64_t low = (int64_t)w[24] * UNIT, high = (int64_t)w[25] * UNIT;
+    uint16_t out = (uint16_t)clamp(w[5], w[24], w[25]), bias_word = w[4];
+    int64_t bias = c->bias, output = c->output;
+    if (entry) {
+        bias = output = (int64_t)out * UNIT;
+        if (mode == AUTOMATIC && !bit(w[0], 3)) s = p;
+    }
+    int64_t e = s - p;
+    if (bit(w[0], 7)) e = e * distance(s, p) / (int64_t)full;
+    if (bit(w[0], 8) && distance(s, p) < w[19]) e = 0;
+    int fresh = entry || !c->sampled;
+    int64_t last = fresh ? p : c->last, prior = fresh ? p : c->prior, last_error = fresh ? e : c->error;
+
+    if (mode != MANUAL && velocity) {
+        struct terms t = terms_of(w, tuning, e - last_error, e, p - 2 * last + prior);
+        output = clamp(output + t.p + t.i - t.d, low, high);
+        out = counts(output);
+    } else if (mode != MANUAL) {
+        struct terms t = terms_of(w, tuning, e, e, p - last);
+        int64_t m = t.p - t.d + bias + t.i;
+        output = clamp(m, low, high);
+        if (m == output) bias += t.i;
+        else if (!bit(w[0], 10)) bias = output - (t.p - t.d);
+        out = counts(output);
+        bias_word = counts(clamp(bias, 0, (int64_t)full * UNIT));
+    }
+    unsigned word = status(w, c, mode, s, p, out);
+    w[0] &= ~7u;
+    w[2] = (uint16_t)s;
+    w[3] = (uint16_t)p;
+    w[4] = bias_word;
+    w[5] = out;
+    w[6] = (uint16_t)word;
+    *c = (struct carried){mode, bias, output, p, c->sampled ? c->last : p, (int32_t)e, velocity, 1};
+    return 0;
+}
+
+static int store(unsigned address, unsigned value) {
+    unsigned at = address % 32;
+    if (address > 1023 || (address < 512 && (at == 3 || at == 4 || at == 6 || at == 29))) return 6;
+    words[address] = (uint16_t)value;
+    return 0;
+}
+
+static char *text(char *to, const char *from) {
+    while (*from) *to++ = *from++;
+    return to;
+}
+
+static char *number(char *to, unsigned n) {
+    char digits[10];
+    int m = 0;
+    do digits[m++] = (char)('0' + n % 10);
+    while (n /= 10);
+    while (m) *to++ = digits[--m];
+    return to;
+}
+
+static char *hex(char *to, unsigned word) {
+    for (int shift = 12; shift >= 0; shift -= 4) *to++ = "0123456789ABCDEF"[word >> shift & 15];
+    return to;
+}
+
+static unsigned pair(const uint8_t *at) { return at[0] | (unsigned)at[1] << 8; }
+
+static char *said(char *to, int refusal, const uint8_t *body, unsigned kind) {
+    if (refusal) return number(text(to, " refused "), (unsigned)refusal);
+    if (kind == 1) return number(text(number(text(to, " set "), pair(body)), " "), pair(body + 2));
+    const uint16_t *w = words + 32 * (body[0] - 1);
+    to = number(text(to, " loop "), body[0]);
+    to = number(text(to, " sp "), w[2]);
+    to = number(text(to, " pv "), w[3]);
+    to = number(text(to, " out "), w[5]);
+    return hex(text(to, " word "), w[6]);
+}
+
+static char *run(char *to, const uint8_t *file, size_t size) {
+    unsigned count = 0, refused = 0;
+    for (size_t at = 0; at < size;) {
+        size_t left = size - at;
+        unsigned length = left < 2 ? 0 : pair(file + at), kind = 0;
+        int refusal;
+        const uint8_t *body = file + at + 4;
+        if (left < 2 || left - 2 < length) refusal = 1, at = size;
+        else {
+            kind = length < 2 ? 0 : pair(file + at + 2);
+            if (kind != 1 && kind != 2) refusal = 2;
+            else if (length != (kind == 1 ? 6 : 5)) refusal = 3;
+            else if (kind == 1) refusal = store(pair(body), pair(body + 2));
+            else refusal = sample(body[0], pair(body + 1));
+            at += 2 + length;
+        }
+        to = text(said(number(to, ++count), refusal, body, kind), "\n");
+        refused += refusal != 0;
+    }
+    return text(number(text(number(to, count), " records, "), refused), " refused\n");
+}
+
+int main(void) {
+    static uint8_t file[LONGEST + 1];
+    static char lines[LONGEST / 2 * 64];
+    size_t size = fread(file, 1, sizeof file, stdin);
+    char *end = size > LONGEST ? text(lines, "too long\n") : run(lines, file, size);
+    fwrite(lines, 1, (size_t)(end - lines), stdout);
+    return 0;
+}

@@ -1,0 +1,96 @@
+-- `session::carry_all` meets its contract: the records left lead from the state reached to where all records lead. The bytes left become fewer.
+use Prim.Native.Nat.{_-_}
+use native.Mathlib.Omega.{arith}
+use mathlib.Core.Path.{_≡_, refl, ap, _∙_}
+use lib.ListN.{length}
+use Rattle.reader.specs.declared.Step.{Step}
+use Rattle.reader.specs.File.Laws.{next-bounds}
+use Rattle.engine.specs.Records.{resetRecord}
+use Rattle.session.proofs.Loops.{Going, start, turn, end, count-small}
+use Rattle.session.proofs.running.carry_all.Statement.{statement}
+use Rattle.session.proofs.running.carry_all.Tie as tie
+
+abbrev Inv-loop : tie.InvT-loop
+Inv-loop file words₀ kept₀ count₀ refused₀ at₀ words kept count refused at =
+    Going file words₀ kept₀ words kept count refused at × (length words ≡ length words₀)
+
+abbrev μ-loop : tie.MeasureT-loop
+μ-loop file words₀ kept₀ count₀ refused₀ at₀ words kept count refused at = length file - at
+
+loop-holds : tie.Need-loop-holds Inv-loop μ-loop
+loop-holds c = (start _ _ _, refl)
+
+read-record-requires : tie.Need-read-record-requires Inv-loop μ-loop
+read-record-requires c κs = tt
+
+slot-for-requires : tie.Need-slot-for-requires Inv-loop μ-loop
+slot-for-requires c κs = tt
+
+mul-carried : tie.Need-mul-carried Inv-loop μ-loop
+mul-carried c = omega arith
+
+array-copy-out-carried : tie.Need-array-copy-out-carried Inv-loop μ-loop
+array-copy-out-carried c = omega arith
+
+act-requires : tie.Need-act-requires Inv-loop μ-loop
+act-requires c κs = tt
+
+mul-kept : tie.Need-mul-kept Inv-loop μ-loop
+mul-kept c = omega arith
+
+array-set-from-kept : tie.Need-array-set-from-kept Inv-loop μ-loop
+array-set-from-kept c = omega arith
+
+add-count : tie.Need-add-count Inv-loop μ-loop
+add-count c = omega arith
+
+refusals-requires : tie.Need-refusals-requires Inv-loop μ-loop
+refusals-requires c κs = tt
+
+add-refused : tie.Need-add-refused Inv-loop μ-loop
+add-refused c = omega (arith, count-small (c .before .before .before .before .act .result .number) (c .refusals .ensures))
+
+loop-less : tie.Need-loop-less Inv-loop μ-loop
+loop-less c =
+    let r = c .before .before .before .before .before .before .before .before in
+    let l = r .before .before in
+    omega (arith, ap (λ (z : Step). z .next) (r .read-record .ensures), next-bounds (l .before .before .before .args .file .now) (l .loop .at) (r .before .loop-test .taken))
+
+loop-again : tie.Need-loop-again Inv-loop μ-loop
+unfolding resetRecord
+loop-again c =
+    let a = c .before .before .before .before in
+    let r = a .before .before .before .before in
+    let l = r .before .before in (
+      turn _ _ _ (l .loop .inv .0) (r .before .loop-test .taken) (r .read-record .ensures)
+          (record { place = a .before .before .before .slot-for .ensures .0; act = a .act .ensures; count = c .refusals .ensures }),
+      a .act .kept .1 .0 ∙ l .loop .inv .1,
+    )
+
+same-length : tie.Need-same-length Inv-loop μ-loop
+same-length c = c .before .loop .inv .1
+
+returns : tie.Need-returns Inv-loop μ-loop
+returns c = end _ _ _ (c .before .loop .inv .0) (c .loop-test .left)
+
+pub carry-all-spec : {M : Type 1} → statement M
+carry-all-spec =
+    tie.close
+    (tie.spec
+    Inv-loop
+    μ-loop
+    loop-holds
+    read-record-requires
+    slot-for-requires
+    mul-carried
+    array-copy-out-carried
+    act-requires
+    mul-kept
+    array-set-from-kept
+    add-count
+    refusals-requires
+    add-refused
+    loop-less
+    loop-again
+    same-length
+    returns)

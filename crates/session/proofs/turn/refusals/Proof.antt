@@ -1,0 +1,13 @@
+-- `session::refusals` meets its contract: each branch is the case of `countOf` that its test picks.
+use borrow.Author.Tests.{eq-eqb, ne-eqb}
+use Rattle.session.proofs.turn.refusals.Statement.{statement}
+use Rattle.session.proofs.turn.refusals.Tie as tie
+
+returns : tie.Need-returns
+returns c = rw (eq-eqb _ _ (c .if1 .taken))
+
+returns-2 : tie.Need-returns-2
+returns-2 c = rw (ne-eqb _ _ (c .if1 .left))
+
+pub refusals-spec : {M : Type 1} → statement M
+refusals-spec = tie.close (tie.spec returns returns-2)

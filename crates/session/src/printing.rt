@@ -1,0 +1,70 @@
+// What the program prints of its input.
+use crate::line::put_last;
+use crate::line::put_line;
+use crate::turn::act;
+use crate::turn::refusals;
+use crate::turn::slot_for;
+use engine::Carried;
+ghost use mathlib.Core.Path.{_≡_};
+ghost use Prim.Native.Nat.{_+_, _*_, _≤_};
+ghost use lib.ListN.{length, take};
+ghost use Rattle.text.specs.Text.{Written};
+ghost use Rattle.reader.specs.File.{recordsOf};
+ghost use Rattle.session.specs.Session.{state, linesOf, printedOf};
+
+// Every record of a file in turn, with its line, and the last line: from the start of `out`. Answers
+// how many bytes these are: at most ten for each byte of the file, and a last line.
+fn transcript(file: &[u8], words: &mut [u16], records: [Carried; 16], out: &mut [u8]) -> usize
+    requires { ⌜ (length (now file) ≤ 65536) × (10 * length (now file) + 100 ≤ length (now out)) ⌝ }
+    ensures { λ r. ⌜ Written (now (out .entry)) 0 (linesOf (state (now (words .entry)) records 0 0) (recordsOf (now (file .entry)))) (now (out .exit)) r ⌝ }
+    ensures { λ r. ⌜ r ≤ 10 * length (now (file .entry)) + 100 ⌝ }
+{
+    let mut kept = records;
+    let mut count = 0;
+    let mut refused = 0;
+    let mut at = 0;
+    let mut place = 0;
+    while at < file.len() {
+        let step = reader::read_record(file, at);
+        let item = step.item;
+        let slot = slot_for(item);
+        let carried = kept[slot];
+        let done = act(item, words, carried);
+        let next = done.carried;
+        kept[slot] = next;
+        count += 1;
+        refused += refusals(done.number);
+        place = put_line(out, place, count, item, done.number, words);
+        at = step.next;
+    }
+    put_last(out, place, count, refused)
+}
+
+// The whole printed text, from the start of `out`. Answers how many bytes it is.
+pub fn drill(input: &[u8], out: &mut [u8]) -> usize
+    requires { ⌜ 655460 ≤ length (now out) ⌝ }
+    ensures printed { λ r. ⌜ take r (now (out .exit)) ≡ printedOf (now (input .entry)) ⌝ }
+    ensures room { λ r. ⌜ (r ≤ length (now (out .exit))) × (r ≡ length (take r (now (out .exit)))) ⌝ }
+    ensures rest { λ r. ⌜ Written (now (out .entry)) 0 (printedOf (now (input .entry))) (now (out .exit)) r ⌝ }
+{
+    if 65536 < input.len() {
+        return text::put_text(out, 0, b"too long\n");
+    }
+    let mut words = desk::reset_words();
+    let records = desk::reset_records();
+    transcript(input, &mut words, records, out)
+}
+
+// Room for an input of 65,536 bytes and one more, by which a longer one is known.
+pub fn input_buffer() -> [u8; 65537]
+    ensures { λ r. ⌜ 65537 ≡ length r ⌝ }
+{
+    [0; 65537]
+}
+
+// Room for what any input prints.
+pub fn output_buffer() -> [u8; 655460]
+    ensures { λ r. ⌜ 655460 ≡ length r ⌝ }
+{
+    [0; 655460]
+}
