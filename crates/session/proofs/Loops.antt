@@ -1,11 +1,12 @@
 -- What a session's loops keep, in plain values: one turn, and the end.
 use Prim.Native.Nat.{ℕ, _+_, _*_, _-_, _≤_, _<_}
 use native.Mathlib.Omega.{arith}
+use native.Mathlib.Numerals.{unary-clauses}
 use mathlib.Core.Path.{_≡_, refl, sym, ap, _∙_}
 use mathlib.Core.Bool.{Bool, true, false}
-use mathlib.Core.List.{List, [], _∷_, _++_}
+use mathlib.Core.List.{List, _++_}
 use lib.Dec.{eqb}
-use lib.ListN.{length, getD, set, take, length-append}
+use lib.ListN.{length, getD, set, take, length-append, length-set}
 use lib.Seq.{set-getD, sets, length-sets}
 use Rattle.text.specs.Text.{Written}
 use Rattle.text.specs.Text.Laws.{sets-append, take-sets}
@@ -19,7 +20,7 @@ use Rattle.engine.specs.Records.{resetRecord}
 use Rattle.engine.specs.Samples.{sampleResult}
 use Rattle.desk.specs.Calls.{answerTo, wordsAfter, recordsAfter}
 use Rattle.desk.specs.Lists.{Desk}
-use Rattle.session.specs.Session.{deskAfter, numberFor, countOf, State, state, after, runOf, slotFor, Done, done, actOf, widthOf, lineOf, lastOf, linesOf}
+use Rattle.session.specs.Session.{deskAfter, numberFor, countOf, desk, state, begun, after, runOf, numbersOf, slotFor, Done, done, actOf, widthOf, lineOf, lastOf, linesOf}
 use Rattle.session.proofs.Widths.{line-room}
 
 -- a record with its loop's carried record alone gives what the desk's call gives
@@ -41,7 +42,7 @@ count-small {k} number e = go (eqb number 0) refl
 pub done-same : {n n′ : ℕ} {ws ws′ : List ℕ} {c c′ : Carried} → n ≡ n′ → ws ≡ ws′ → c ≡ c′ → done n ws c ≡ done n′ ws′ c′
 done-same p q r = rw (p, q, r)
 
--- what one turn of a loop computes of a record x: its slot, its number of refusal with the words and the carried record after it, and its count
+-- what one turn of a loop computes of a record x: its slot; its number of refusal, the words and the carried record after it; its count
 pub record Turned (x : Record) (ws : List ℕ) (cs : List Carried) (slot number : ℕ) (ws′ : List ℕ) (c′ : Carried) (k : ℕ) : Type 0 where
   pub place : slot ≡ slotFor x
   pub act : done number ws′ c′ ≡ actOf ws (getD cs slot resetRecord) x
@@ -88,7 +89,7 @@ module _ (s ws₀ : List ℕ) (cs₀ : List Carried) where
     pub here : at ≤ length s
     pub two : 2 * n ≤ at + (1 - (length s - at))
     pub fewer : m ≤ n
-    pub left : runOf (state ws cs n m) (recordsFrom s at) ≡ runOf (state ws₀ cs₀ 0 0) (recordsOf s)
+    pub left : runOf (state ws cs n m) (recordsFrom s at) ≡ runOf (begun ws₀ cs₀) (recordsOf s)
 
   pub start : Going ws₀ cs₀ 0 0 0
   start = record { here = omega arith; two = omega arith; fewer = omega arith; left = refl }
@@ -108,9 +109,35 @@ module _ (s ws₀ : List ℕ) (cs₀ : List Carried) where
       }
 
   pub end : {ws : List ℕ} {cs : List Carried} {n m at : ℕ} → Going ws cs n m at → length s ≤ at
-      → state ws cs n m ≡ runOf (state ws₀ cs₀ 0 0) (recordsOf s)
+      → state ws cs n m ≡ runOf (begun ws₀ cs₀) (recordsOf s)
   unfolding runOf
   end {at = at} g h = rw (records-end s at h) at (g .left)
+
+  -- the same with the answers kept in a₀
+  module _ (a₀ : List ℕ) where
+    -- a, with the answers of the records left kept from place n on, is a₀ with all answers
+    pub record Answering (ws : List ℕ) (cs : List Carried) (n m at : ℕ) (a : List ℕ) : Type 0 where
+      pub going : Going ws cs n m at
+      pub same : length a ≡ length a₀
+      pub kept : sets a n (numbersOf (desk ws cs) (recordsFrom s at)) ≡ sets a₀ 0 (numbersOf (desk ws₀ cs₀) (recordsOf s))
+
+    pub start-answering : Answering ws₀ cs₀ 0 0 0 a₀
+    start-answering = record { going = start; same = refl; kept = refl }
+
+    pub answer : {ws ws′ : List ℕ} {cs : List Carried} {c′ : Carried} {n m k at slot number : ℕ} {step : Step} {a a′ : List ℕ}
+        → Answering ws cs n m at a → at < length s → step ≡ recordAt s at → Turned (step .item) ws cs slot number ws′ c′ k → a′ ≡ set a n number
+        → Answering ws′ (set cs slot c′) (n + 1) (m + k) (step .next) a′
+    unfolding numbersOf
+    answer {n = n} {at = at} {number = number} {a = a} g h e t w = record {
+      going = turn (g .going) h e t;
+      same = rw w (length-set a n number ∙ g .same);
+      kept = rw (w, turned-desk t, turned-number t, e) (simp unary-clauses (rw (records-step s at h) at (g .kept)));
+    }
+
+    pub end-answering : {ws : List ℕ} {cs : List Carried} {n m at : ℕ} {a : List ℕ} → Answering ws cs n m at a → length s ≤ at
+        → a ≡ sets a₀ 0 (numbersOf (desk ws₀ cs₀) (recordsOf s))
+    unfolding numbersOf
+    end-answering {at = at} g h = rw (records-end s at h) at (g .kept)
 
   -- the same with lines written into the buffer o₀
   module _ (o₀ : List ℕ) where
@@ -119,8 +146,8 @@ module _ (s ws₀ : List ℕ) (cs₀ : List Carried) where
       pub going : Going ws cs n m at
       pub most : p ≤ 10 * at + 10 * (1 - (length s - at))
       pub same : length o ≡ length o₀
-      pub told : sets o p (linesOf (state ws cs n m) (recordsFrom s at)) ≡ sets o₀ 0 (linesOf (state ws₀ cs₀ 0 0) (recordsOf s))
-      pub ends : p + length (linesOf (state ws cs n m) (recordsFrom s at)) ≡ length (linesOf (state ws₀ cs₀ 0 0) (recordsOf s))
+      pub told : sets o p (linesOf (state ws cs n m) (recordsFrom s at)) ≡ sets o₀ 0 (linesOf (begun ws₀ cs₀) (recordsOf s))
+      pub ends : p + length (linesOf (state ws cs n m) (recordsFrom s at)) ≡ length (linesOf (begun ws₀ cs₀) (recordsOf s))
 
     pub start-telling : Telling ws₀ cs₀ 0 0 0 o₀ 0
     start-telling = record { going = start; most = omega arith; same = refl; told = refl; ends = omega arith }
@@ -144,7 +171,7 @@ module _ (s ws₀ : List ℕ) (cs₀ : List Carried) where
         }
 
     pub end-telling : {ws : List ℕ} {cs : List Carried} {n m at : ℕ} {o o′ : List ℕ} {p r : ℕ} → Telling ws cs n m at o p → length s ≤ at
-        → Written o p (lastOf n m) o′ r → Written o₀ 0 (linesOf (state ws₀ cs₀ 0 0) (recordsOf s)) o′ r
+        → Written o p (lastOf n m) o′ r → Written o₀ 0 (linesOf (begun ws₀ cs₀) (recordsOf s)) o′ r
     unfolding linesOf
     end-telling {at = at} g h w = record {
       buffer = w .buffer ∙ (rw (records-end s at h) at (g .told));

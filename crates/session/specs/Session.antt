@@ -2,7 +2,7 @@
 use Prim.Native.Nat.{ℕ, _+_}
 use mathlib.Core.Bool.{cond}
 use mathlib.Core.List.{List, [], _∷_, _++_}
-use lib.ListN.{length, getD, set}
+use lib.ListN.{length, getD}
 use lib.Dec.{ltb, eqb}
 use Rattle.text.specs.Text.{decimalOf, hexOf}
 use Rattle.reader.specs.declared.Fault.{Fault}
@@ -11,8 +11,7 @@ use Rattle.reader.specs.declared.Record.the-variants.{Store, Sample, Refused}
 use Rattle.reader.specs.File.{numberOfFault, recordsOf}
 use Rattle.table.specs.Words.{baseOf}
 use Rattle.engine.specs.declared.record.Carried.{Carried}
-use Rattle.engine.specs.Records.{resetRecord}
-use Rattle.engine.specs.Refusals.{answerOf, numberOf}
+use Rattle.engine.specs.Refusals.{numberOf}
 use Rattle.engine.specs.Samples.{sampleResult, sampleWords}
 use Rattle.engine.specs.Stores.{storeAnswer, storeWords}
 use Rattle.desk.specs.declared.Call.{Call}
@@ -31,7 +30,7 @@ byCall call none (Store address value) = call (StoreCall address value)
 byCall call none (Sample k raw) = call (SampleCall k raw)
 byCall call none (Refused why) = none why
 
--- the words and records after a record: "A refused record … changes no word and no carried record"
+-- the words and records after a record: a refusal "changes no word and no carried record"
 abbrev pub deskAfter : Desk → Record → Desk
 deskAfter d x = byCall (left d) (λ why. d) x
 
@@ -45,6 +44,9 @@ countOf number = cond (eqb number 0) 0 1
 
 -- ---- a list of records
 
+abbrev pub desk : List ℕ → List Carried → Desk
+desk ws cs = record { words = ws; records = cs }
+
 -- the words and records, how many records were read, and how many of them refused
 pub record State : Type 0 where
   pub desk : Desk
@@ -52,8 +54,13 @@ pub record State : Type 0 where
   pub refused : ℕ
 
 abbrev pub state : List ℕ → List Carried → ℕ → ℕ → State
-state ws cs n m = record { desk = record { words = ws; records = cs }; count = n; refused = m }
+state ws cs n m = record { desk = desk ws cs; count = n; refused = m }
 
+-- before the first record
+abbrev pub begun : List ℕ → List Carried → State
+begun ws cs = state ws cs 0 0
+
+-- after one more record
 abbrev pub after : State → Record → State
 after t x = record {
   desk = deskAfter (t .desk) x;
@@ -65,6 +72,11 @@ after t x = record {
 unfoldable pub runOf : State → List Record → State
 runOf t [] = t
 runOf t (x ∷ xs) = runOf (after t x) xs
+
+-- the answers in order: 0 for a record carried out, else its number of refusal
+unfoldable pub numbersOf : Desk → List Record → List ℕ
+numbersOf d [] = []
+numbersOf d (x ∷ xs) = numberFor d x ∷ numbersOf (deskAfter d x) xs
 
 -- how a run ended, and the words and records that it left
 pub record Whole : Type 0 where
@@ -80,7 +92,11 @@ counted t = whole (Counts (t .count) (t .refused)) (t .desk .words) (t .desk .re
 
 -- "Wrong memory is tested first and ends the call with a single 5, nothing read."
 unfoldable pub sessionOf : List ℕ → List ℕ → List Carried → Whole
-sessionOf file ws cs = cond (eqb (length ws) 1024) (counted (runOf (state ws cs 0 0) (recordsOf file))) (whole (Stopped 5) ws cs)
+sessionOf file ws cs = cond (eqb (length ws) 1024) (counted (runOf (begun ws cs) (recordsOf file))) (whole (Stopped 5) ws cs)
+
+-- the same of the answers
+unfoldable pub answersOf : List ℕ → List ℕ → List Carried → List ℕ
+answersOf file ws cs = cond (eqb (length ws) 1024) (numbersOf (desk ws cs) (recordsOf file)) (5 ∷ [])
 
 -- ---- one record with the carried record of its loop alone, as the code carries it out
 
@@ -90,6 +106,7 @@ slotFor (Store address value) = 0
 slotFor (Sample k raw) = slotOf k
 slotFor (Refused why) = 0
 
+-- its number of refusal, the words and that carried record after it
 pub record Done : Type 0 where
   pub number : ℕ
   pub words : List ℕ
@@ -158,14 +175,11 @@ unfoldable pub linesOf : State → List Record → List ℕ
 linesOf t [] = lastOf (t .count) (t .refused)
 linesOf t (x ∷ xs) = lineOf (t .count + 1) x (numberFor (t .desk) x) (deskAfter (t .desk) x .words) ++ linesOf (after t x) xs
 
--- "reset": the words and records that the program starts from
-abbrev pub atReset : State
-atReset = state resetWords resetRecords 0 0
-
--- what the program prints of its input: "A longer file prints `too long` only."
+-- what the program prints of its input, from reset: "A longer file prints `too long` only."
 unfoldable pub printedOf : List ℕ → List ℕ
 printedOf file =
-    cond (ltb 65536 (length file)) (116 ∷ 111 ∷ 111 ∷ 32 ∷ 108 ∷ 111 ∷ 110 ∷ 103 ∷ 10 ∷ []) (linesOf atReset (recordsOf file))
+    cond (ltb 65536 (length file)) (116 ∷ 111 ∷ 111 ∷ 32 ∷ 108 ∷ 111 ∷ 110 ∷ 103 ∷ 10 ∷ [])
+    (linesOf (begun resetWords resetRecords) (recordsOf file))
 
 -- ---- the file as a list of calls
 

@@ -10,13 +10,13 @@ ghost use Prim.Native.Nat.{_+_, _*_, _≤_};
 ghost use lib.ListN.{length, take};
 ghost use Rattle.text.specs.Text.{Written};
 ghost use Rattle.reader.specs.File.{recordsOf};
-ghost use Rattle.session.specs.Session.{state, linesOf, printedOf};
+ghost use Rattle.session.specs.Session.{begun, linesOf, printedOf};
 
 // Every record of a file in turn, with its line, and the last line: from the start of `out`. Answers
 // how many bytes these are: at most ten for each byte of the file, and a last line.
 fn transcript(file: &[u8], words: &mut [u16], records: [Carried; 16], out: &mut [u8]) -> usize
     requires { ⌜ (length (now file) ≤ 65536) × (10 * length (now file) + 100 ≤ length (now out)) ⌝ }
-    ensures { λ r. ⌜ Written (now (out .entry)) 0 (linesOf (state (now (words .entry)) records 0 0) (recordsOf (now (file .entry)))) (now (out .exit)) r ⌝ }
+    ensures { λ r. ⌜ Written (now (out .entry)) 0 (linesOf (begun (now (words .entry)) records) (recordsOf (now (file .entry)))) (now (out .exit)) r ⌝ }
     ensures { λ r. ⌜ r ≤ 10 * length (now (file .entry)) + 100 ⌝ }
 {
     let mut kept = records;

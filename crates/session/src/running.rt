@@ -5,7 +5,9 @@ use crate::turn::slot_for;
 use engine::Carried;
 ghost use mathlib.Core.Path.{_≡_};
 ghost use Rattle.reader.specs.File.{recordsOf};
-ghost use Rattle.session.specs.Session.{state, runOf, whole, sessionOf};
+ghost use lib.ListN.{set};
+ghost use lib.Seq.{sets};
+ghost use Rattle.session.specs.Session.{desk, state, begun, runOf, numbersOf, whole, sessionOf, answersOf};
 
 // How a run ended: how many records were read, and how many of them refused; or the number of the
 // refusal that ended it at once.
@@ -27,9 +29,19 @@ pub struct Counted {
     pub refused: usize,
 }
 
+// An answer kept at its place, where there is one.
+fn keep(answers: &mut [u8], at: usize, number: u8)
+    ensures { λ _. ⌜ now (answers .exit) ≡ set (now (answers .entry)) at number ⌝ }
+{
+    if at < answers.len() {
+        answers[at] = number;
+    }
+}
+
 // Every record of a file in turn.
-fn carry_all(file: &[u8], words: &mut [u16], records: [Carried; 16]) -> Counted
-    ensures { λ r. ⌜ state (now (words .exit)) (r .records) (r .count) (r .refused) ≡ runOf (state (now (words .entry)) records 0 0) (recordsOf (now (file .entry))) ⌝ }
+fn carry_all(file: &[u8], words: &mut [u16], records: [Carried; 16], answers: &mut [u8]) -> Counted
+    ensures { λ r. ⌜ state (now (words .exit)) (r .records) (r .count) (r .refused) ≡ runOf (begun (now (words .entry)) records) (recordsOf (now (file .entry))) ⌝ }
+    ensures { λ r. ⌜ now (answers .exit) ≡ sets (now (answers .entry)) 0 (numbersOf (desk (now (words .entry)) records) (recordsOf (now (file .entry)))) ⌝ }
 {
     let mut kept = records;
     let mut count = 0;
@@ -43,6 +55,7 @@ fn carry_all(file: &[u8], words: &mut [u16], records: [Carried; 16]) -> Counted
         let done = act(item, words, carried);
         let next = done.carried;
         kept[slot] = next;
+        keep(answers, count, done.number);
         count += 1;
         refused += refusals(done.number);
         at = step.next;
@@ -55,17 +68,20 @@ fn carry_all(file: &[u8], words: &mut [u16], records: [Carried; 16]) -> Counted
 }
 
 // A file of any length. `words` and `records` may hold anything: where there are not 1,024 words, the
-// answer is a single 5, and nothing is read or changed.
-pub fn run(file: &[u8], words: &mut [u16], records: [Carried; 16]) -> Ran
+// answer is a single 5, and nothing is read or changed. The answer to each record, 0 or its number of
+// refusal, goes into `answers` in order, as far as there is room.
+pub fn run(file: &[u8], words: &mut [u16], records: [Carried; 16], answers: &mut [u8]) -> Ran
     ensures { λ r. ⌜ whole (r .ended) (now (words .exit)) (r .records) ≡ sessionOf (now (file .entry)) (now (words .entry)) records ⌝ }
+    ensures { λ r. ⌜ now (answers .exit) ≡ sets (now (answers .entry)) 0 (answersOf (now (file .entry)) (now (words .entry)) records) ⌝ }
 {
     if words.len() != 1024 {
+        keep(answers, 0, 5);
         return Ran {
             ended: Ended::Stopped(5),
             records,
         };
     }
-    let all = carry_all(file, words, records);
+    let all = carry_all(file, words, records, answers);
     let kept = all.records;
     Ran {
         ended: Ended::Counts(all.count, all.refused),

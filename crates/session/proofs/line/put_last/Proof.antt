@@ -13,7 +13,9 @@ slice-aggregate-put-text : tie.Need-slice-aggregate-put-text
 slice-aggregate-put-text c = search needs
 
 put-text-requires : tie.Need-put-text-requires
-put-text-requires c κs = omega (arith, decimal-length 19 (c .before .before .before .before .before .before .before .args .count) (omega arith))
+put-text-requires c κs =
+    let a = c .before .before .before .before .before .before .before .args in
+    omega (arith, decimal-length 19 (a .count) (omega arith))
 
 put-decimal-requires-2 : tie.Need-put-decimal-requires-2
 put-decimal-requires-2 c κs =
@@ -25,7 +27,8 @@ slice-aggregate-put-text-2 c = search needs
 
 put-text-requires-2 : tie.Need-put-text-requires-2
 put-text-requires-2 c κs =
-    let a = c .before .before .before .before .before .before .before .before .before .before .before .before .before .before .before .before .args in
+    let e = c .before .before .before .before .before in
+    let a = e .before .before .before .before .before .before .before .before .before .before .before .args in
     omega (arith, decimal-length 19 (a .count) (omega arith), decimal-length 19 (a .refused) (omega arith))
 
 same-length : tie.Need-same-length
@@ -38,10 +41,13 @@ returns c =
     let e = f .before .before .before .before .before in
     let d = e .before .before .before .before in
     let b = d .before .before .before .before .before in
-    let a = b .before .before .before .args in (
-      written-append (written-append (written-append (b .put-decimal .ensures) (d .put-text .ensures)) (e .put-decimal2 .ensures)) (f .put-text2 .ensures),
-      omega (arith, b .put-decimal .ensures, d .put-text .ensures, e .put-decimal2 .ensures, f .put-text2 .ensures, decimal-length 19 (a .count) (omega arith), decimal-length 19 (a .refused) (omega arith)),
-    )
+    let a = b .before .before .before .args in
+    let count = b .put-decimal .ensures in
+    let refused = e .put-decimal2 .ensures in
+    let text = written-append (written-append (written-append count (d .put-text .ensures)) refused) (f .put-text2 .ensures) in
+    let p = decimal-length 19 (a .count) (omega arith) in
+    let q = decimal-length 19 (a .refused) (omega arith) in
+    (text, omega (arith, count .place, d .put-text .ensures .place, refused .place, f .put-text2 .ensures .place, p, q))
 
 pub put-last-spec : {M : Type 1} → statement M
 put-last-spec =

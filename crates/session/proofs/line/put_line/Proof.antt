@@ -16,8 +16,10 @@ put-said-requires c κs = omega (arith, decimal-length 4 (c .before .before .bef
 put-byte-requires : tie.Need-put-byte-requires
 put-byte-requires c κs =
     let s = c .before .before .before in
-    let a = s .before .before .before .before .before .before .before .before .args in
-    omega (arith, s .put-said .ensures .1, s .before .before .before .before .put-decimal .ensures, decimal-length 4 (a .n) (omega arith), width-bounds (a .item))
+    let d = s .before .before .before .before in
+    let a = d .before .before .before .before .args in
+    let digits = decimal-length 4 (a .n) (omega arith) in
+    omega (arith, s .put-said .ensures .1, d .put-decimal .ensures, digits, width-bounds (a .item))
 
 same-length : tie.Need-same-length
 same-length c = search needs
@@ -27,10 +29,10 @@ unfolding lineOf
 returns c =
     let f = c .before .before in
     let s = f .before .before .before .before in
-    let d = s .before .before .before .before in (
-      written-append (written-append (d .put-decimal .ensures) (s .put-said .ensures .0)) (f .put-byte .ensures),
-      omega (arith, f .put-byte .ensures, s .put-said .ensures .1, d .put-decimal .ensures, decimal-length 4 (d .before .before .before .before .args .n) (omega arith)),
-    )
+    let d = s .before .before .before .before in
+    let digits = decimal-length 4 (d .before .before .before .before .args .n) (omega arith) in
+    let text = written-append (written-append (d .put-decimal .ensures) (s .put-said .ensures .0)) (f .put-byte .ensures) in
+    (text, omega (arith, f .put-byte .ensures, s .put-said .ensures .1, d .put-decimal .ensures, digits))
 
 pub put-line-spec : {M : Type 1} → statement M
 put-line-spec =

@@ -60,11 +60,13 @@ returns c =
     let d = e .before .before .before .before .before in
     let b = d .before .before .before .before .before in
     let a = b .before .before .before .before .before in
-    let start = a .before .before .before .base-of in (
-      rw (start .ensures) at (written-append (written-append (written-append (written-append (a .put-field .ensures .0) (b .put-named .ensures .0))
-          (d .put-named2 .ensures .0)) (e .put-named3 .ensures .0)) (f .put-status .ensures)),
-      omega (arith, a .put-field .ensures .1, b .put-named .ensures .1, d .put-named2 .ensures .1, e .put-named3 .ensures .1, f .put-status .ensures .place),
-    )
+    let start = a .before .before .before .base-of in
+    let loop = a .put-field .ensures in
+    let sp = b .put-named .ensures in
+    let pv = d .put-named2 .ensures in
+    let out = e .put-named3 .ensures in
+    let text = written-append (written-append (written-append (written-append (loop .0) (sp .0)) (pv .0)) (out .0)) (f .put-status .ensures) in
+    (rw (start .ensures) at text, omega (arith, loop .1, sp .1, pv .1, out .1, f .put-status .ensures .place))
 
 pub put-loop-spec : {M : Type 1} → statement M
 put-loop-spec =

@@ -27,7 +27,9 @@ same-length-2 c = search needs
 returns-2 : tie.Need-returns-2
 returns-2 c =
     let f = c .before .before in
-    rw (ne-eqb _ _ (f .before .before .before .if1 .left)) (f .put-field .ensures .0, omega (arith, f .put-field .ensures .1, width-bounds (f .before .before .before .before .before .before .args .item)))
+    let e = f .before .before .before in
+    let least = width-bounds (e .before .before .before .args .item) in
+    rw (ne-eqb _ _ (e .if1 .left)) (f .put-field .ensures .0, omega (arith, f .put-field .ensures .1))
 
 pub put-said-spec : {M : Type 1} → statement M
 put-said-spec =

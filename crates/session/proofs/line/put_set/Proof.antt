@@ -24,7 +24,9 @@ returns : tie.Need-returns
 returns c =
     let two = c .before .before in
     let one = two .before .before .before .before .before in
-    (written-append (one .put-field .ensures .0) (two .put-field2 .ensures .0), omega (arith, one .put-field .ensures .1, two .put-field2 .ensures .1))
+    let p = one .put-field .ensures in
+    let q = two .put-field2 .ensures in
+    (written-append (p .0) (q .0), omega (arith, p .1, q .1))
 
 pub put-set-spec : {M : Type 1} → statement M
 put-set-spec =

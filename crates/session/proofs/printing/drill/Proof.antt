@@ -1,5 +1,6 @@
 -- `session::drill` meets its contract: each branch is the case of `printedOf` that its test picks.
 use native.Mathlib.Omega.{arith}
+use lib.ListN.{length}
 use borrow.Author.Tests.{lt-ltb, le-ltb}
 use Rattle.session.specs.Session.{printedOf}
 use Rattle.session.proofs.Loops.{printed}
@@ -21,7 +22,9 @@ unfolding printedOf
 returns c =
     let p = c .before .before in
     let t = p .before .before .before in
-    rw (lt-ltb _ _ (t .if1 .taken)) (printed (p .put-text .ensures) (omega (arith, p .put-text .ensures .place, t .before .before .before .pre)))
+    let s = t .before .before .before in
+    rw (lt-ltb 65536 (length (s .args .input .now)) (t .if1 .taken))
+    (printed (p .put-text .ensures) (omega (arith, p .put-text .ensures .place, s .pre)))
 
 reset-words-requires : tie.Need-reset-words-requires
 reset-words-requires c κs = search needs
@@ -44,8 +47,10 @@ returns-2 c =
     let t = c .before .before .before in
     let r = t .before .before .before in
     let e = r .before .before in
+    let s = e .before .before .before in
     let w = rw (r .before .reset-words .ensures, r .reset-records .ensures) at (t .transcript .ensures .0) in
-    rw (le-ltb _ _ (e .if1 .left)) (printed w (omega (arith, t .transcript .ensures .1, e .if1 .left, e .before .before .before .pre)))
+    rw (le-ltb 65536 (length (s .args .input .now)) (e .if1 .left))
+    (printed w (omega (arith, t .transcript .ensures .1, e .if1 .left, s .pre)))
 
 pub drill-spec : {M : Type 1} → statement M
 drill-spec =

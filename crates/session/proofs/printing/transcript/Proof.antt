@@ -60,7 +60,8 @@ loop-less : tie.Need-loop-less Inv-loop μ-loop
 loop-less c =
     let r = c .before .before .before .before .before .before .before .before .before .before .before .before .before in
     let l = r .before .before in
-    omega (arith, ap (λ (z : Step). z .next) (r .read-record .ensures), next-bounds (l .before .before .before .before .args .file .now) (l .loop .at) (r .before .loop-test .taken))
+    let e = ap (λ (z : Step). z .next) (r .read-record .ensures) in
+    omega (arith, e, next-bounds (l .before .before .before .before .args .file .now) (l .loop .at) (r .before .loop-test .taken))
 
 loop-again : tie.Need-loop-again Inv-loop μ-loop
 unfolding resetRecord

@@ -6,19 +6,19 @@ use lib.ListN.{length}
 use Rattle.reader.specs.declared.Step.{Step}
 use Rattle.reader.specs.File.Laws.{next-bounds}
 use Rattle.engine.specs.Records.{resetRecord}
-use Rattle.session.proofs.Loops.{Going, start, turn, end, count-small}
+use Rattle.session.proofs.Loops.{end, Answering, start-answering, answer, end-answering, count-small}
 use Rattle.session.proofs.running.carry_all.Statement.{statement}
 use Rattle.session.proofs.running.carry_all.Tie as tie
 
 abbrev Inv-loop : tie.InvT-loop
-Inv-loop file words₀ kept₀ count₀ refused₀ at₀ words kept count refused at =
-    Going file words₀ kept₀ words kept count refused at × (length words ≡ length words₀)
+Inv-loop file words₀ answers₀ kept₀ count₀ refused₀ at₀ words answers kept count refused at =
+    Answering file words₀ kept₀ answers₀ words kept count refused at answers × (length words ≡ length words₀)
 
 abbrev μ-loop : tie.MeasureT-loop
-μ-loop file words₀ kept₀ count₀ refused₀ at₀ words kept count refused at = length file - at
+μ-loop file words₀ answers₀ kept₀ count₀ refused₀ at₀ words answers kept count refused at = length file - at
 
 loop-holds : tie.Need-loop-holds Inv-loop μ-loop
-loop-holds c = (start _ _ _, refl)
+loop-holds c = (start-answering _ _ _ _, refl)
 
 read-record-requires : tie.Need-read-record-requires Inv-loop μ-loop
 read-record-requires c κs = tt
@@ -41,6 +41,9 @@ mul-kept c = omega arith
 array-set-from-kept : tie.Need-array-set-from-kept Inv-loop μ-loop
 array-set-from-kept c = omega arith
 
+keep-requires : tie.Need-keep-requires Inv-loop μ-loop
+keep-requires c κs = tt
+
 add-count : tie.Need-add-count Inv-loop μ-loop
 add-count c = omega arith
 
@@ -48,30 +51,36 @@ refusals-requires : tie.Need-refusals-requires Inv-loop μ-loop
 refusals-requires c κs = tt
 
 add-refused : tie.Need-add-refused Inv-loop μ-loop
-add-refused c = omega (arith, count-small (c .before .before .before .before .act .result .number) (c .refusals .ensures))
+add-refused c = omega (arith, count-small (c .before .before .before .before .before .before .before .before .act .result .number) (c .refusals .ensures))
 
 loop-less : tie.Need-loop-less Inv-loop μ-loop
 loop-less c =
-    let r = c .before .before .before .before .before .before .before .before in
+    let r = c .before .before .before .before .before .before .before .before .before .before .before .before in
     let l = r .before .before in
-    omega (arith, ap (λ (z : Step). z .next) (r .read-record .ensures), next-bounds (l .before .before .before .args .file .now) (l .loop .at) (r .before .loop-test .taken))
+    omega (arith, ap (λ (z : Step). z .next) (r .read-record .ensures), next-bounds (l .before .before .before .before .args .file .now) (l .loop .at) (r .before .loop-test .taken))
 
 loop-again : tie.Need-loop-again Inv-loop μ-loop
 unfolding resetRecord
 loop-again c =
-    let a = c .before .before .before .before in
+    let k = c .before .before .before in
+    let a = k .before .before .before .before .before in
     let r = a .before .before .before .before in
     let l = r .before .before in (
-      turn _ _ _ (l .loop .inv .0) (r .before .loop-test .taken) (r .read-record .ensures)
-          (record { place = a .before .before .before .slot-for .ensures .0; act = a .act .ensures; count = c .refusals .ensures }),
+      answer _ _ _ _ (l .loop .inv .0) (r .before .loop-test .taken) (r .read-record .ensures)
+          (record { place = a .before .before .before .slot-for .ensures .0; act = a .act .ensures; count = c .refusals .ensures }) (k .keep .ensures),
       a .act .kept .1 .0 ∙ l .loop .inv .1,
     )
 
 same-length : tie.Need-same-length Inv-loop μ-loop
 same-length c = c .before .loop .inv .1
 
+same-length-2 : tie.Need-same-length-2 Inv-loop μ-loop
+same-length-2 c = c .before .loop .inv .0 .same
+
 returns : tie.Need-returns Inv-loop μ-loop
-returns c = end _ _ _ (c .before .loop .inv .0) (c .loop-test .left)
+returns c =
+    let i = c .before .loop .inv .0 in
+    (end _ _ _ (i .going) (c .loop-test .left), end-answering _ _ _ _ i (c .loop-test .left))
 
 pub carry-all-spec : {M : Type 1} → statement M
 carry-all-spec =
@@ -87,10 +96,12 @@ carry-all-spec =
     act-requires
     mul-kept
     array-set-from-kept
+    keep-requires
     add-count
     refusals-requires
     add-refused
     loop-less
     loop-again
     same-length
+    same-length-2
     returns)
