@@ -1,5 +1,4 @@
-/* The drill program in plain C, written straight from document 01 and apart from the Rattle sources:
-   what the benchmark compares `drill` with, line by line and in instructions. Nothing is proved of it. */
+/* The drill program in plain C, by document 01 and apart from the Rattle sources: what the benchmark compares `drill` with, line by line and in instructions. Nothing is proved of it. */
 #include <stdint.h>
 #include <stdio.h>
 #include <stdlib.h>
