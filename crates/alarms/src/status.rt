@@ -45,7 +45,7 @@ pub struct Status {
 }
 
 // Bits 3 to 6, where the PV is monitored. `stored` is the status word before the sample.
-pub fn level_alarms(on: bool, limits: AlarmLimits, stored: u16, pv: u16) -> Levels
+fn level_alarms(on: bool, limits: AlarmLimits, stored: u16, pv: u16) -> Levels
     ensures { λ r. ⌜ r ≡ levelsOf on limits stored pv ⌝ }
 {
     let lowlow = low_alarm(stored / 8 % 2 == 1, limits.lowlow, limits.hysteresis, pv);
@@ -60,7 +60,7 @@ pub fn level_alarms(on: bool, limits: AlarmLimits, stored: u16, pv: u16) -> Leve
     }
 }
 
-pub fn status_of(
+fn status_of(
     mode: Mode,
     bits: Mode1,
     limits: AlarmLimits,
@@ -104,14 +104,14 @@ pub fn status_of(
 }
 
 // A bit's value.
-pub fn value(bit: bool) -> u16
+fn value(bit: bool) -> u16
     ensures { λ r. ⌜ Small r (number bit) 1 ⌝ }
 {
     if bit { 1 } else { 0 }
 }
 
 // The word of the bits, bit 0 the lowest.
-pub fn word_of(s: Status) -> u16
+fn word_of(s: Status) -> u16
     ensures { λ r. ⌜ r ≡ wordOf (bitsOf s) ⌝ }
 {
     let b0 = value(s.manual);

@@ -5,7 +5,7 @@ ghost use lib.IntN.{natAbs};
 ghost use Rattle.control.specs.Errors.{squaredOver, errorOf};
 
 // e × |e| / scale, toward zero.
-pub fn squared_over(e: i64, scale: u16) -> i64
+fn squared_over(e: i64, scale: u16) -> i64
     requires { ⌜ (natAbs e < 65536) × (0 < scale) ⌝ }
     ensures { λ r. ⌜ r ≡ squaredOver e scale ⌝ }
 {

@@ -13,7 +13,7 @@ pub struct Drive {
 
 // Step 8 outside the limits: with freeze the bias stays, else it is taken back from the output.
 // `base` is P − D, `limit` the limit that was passed.
-pub fn outside(freeze: bool, drive: Drive, base: i64, limit: i64) -> Drive
+fn outside(freeze: bool, drive: Drive, base: i64, limit: i64) -> Drive
     requires { ⌜ (natAbs base ≤ 2 ^ 60) × (natAbs limit ≤ 2 ^ 34) ⌝ }
     ensures { λ r. ⌜ r ≡ outsideOf freeze drive base limit ⌝ }
 {

@@ -23,14 +23,14 @@ pub struct Terms {
 }
 
 // The gain for the integral and derivative terms: a gain of 0 counts as 1.00.
-pub fn factor(gain: u16) -> u16
+fn factor(gain: u16) -> u16
     ensures { λ r. ⌜ r ≡ factorOf gain ⌝ }
 {
     if gain == 0 { 100 } else { gain }
 }
 
 // k × e / d, rounded to the nearest unit.
-pub fn term(k: u64, e: i64, d: u64) -> i64
+fn term(k: u64, e: i64, d: u64) -> i64
     requires { ⌜ (k ≤ 9999 * 9999) × ((natAbs e ≤ 131070) × ((0 < d) × (d < 2 ^ 62))) ⌝ }
     ensures { λ r. ⌜ r ≡ roundTo 262144 (over (pos k *ℤ e) d) ⌝ }
 {
@@ -38,7 +38,7 @@ pub fn term(k: u64, e: i64, d: u64) -> i64
 }
 
 // P. Settings are in hundredths here and below.
-pub fn proportional(gain: u16, e: i64) -> i64
+fn proportional(gain: u16, e: i64) -> i64
     requires { ⌜ (gain ≤ 9999) × (natAbs e ≤ 131070) ⌝ }
     ensures { λ r. ⌜ r ≡ roundTo 262144 (exactP gain e) ⌝ }
 {
@@ -46,7 +46,7 @@ pub fn proportional(gain: u16, e: i64) -> i64
 }
 
 // I: none at reset 9999. `minutes` says that the reset is in minutes.
-pub fn integral(c: u16, period: u16, reset: u16, minutes: bool, e: i64) -> i64
+fn integral(c: u16, period: u16, reset: u16, minutes: bool, e: i64) -> i64
     requires { ⌜ (c ≤ 9999) × ((period ≤ 9999) × ((0 < reset) × (natAbs e ≤ 131070))) ⌝ }
     ensures { λ r. ⌜ r ≡ roundTo 262144 (exactI c period reset minutes e) ⌝ }
 {
@@ -62,7 +62,7 @@ pub fn integral(c: u16, period: u16, reset: u16, minutes: bool, e: i64) -> i64
 }
 
 // D, of the PV's change.
-pub fn derivative(c: u16, rate: u16, period: u16, change: i64) -> i64
+fn derivative(c: u16, rate: u16, period: u16, change: i64) -> i64
     requires { ⌜ (c ≤ 9999) × ((rate ≤ 9999) × ((0 < period) × (natAbs change ≤ 131070))) ⌝ }
     ensures { λ r. ⌜ r ≡ roundTo 262144 (exactD c rate period change) ⌝ }
 {
@@ -70,7 +70,7 @@ pub fn derivative(c: u16, rate: u16, period: u16, change: i64) -> i64
 }
 
 // The three of a loop that acts directly.
-pub fn direct_terms(tuning: Tuning, minutes: bool, inputs: Inputs) -> Terms
+fn direct_terms(tuning: Tuning, minutes: bool, inputs: Inputs) -> Terms
     requires { ⌜ Tuned tuning × Bounded inputs ⌝ }
     ensures { λ r. ⌜ r ≡ termsOf tuning minutes false inputs ⌝ }
 {
@@ -82,7 +82,7 @@ pub fn direct_terms(tuning: Tuning, minutes: bool, inputs: Inputs) -> Terms
 }
 
 // Reverse action negates all three.
-pub fn directed(reverse: bool, terms: Terms) -> Terms
+fn directed(reverse: bool, terms: Terms) -> Terms
     requires { ⌜ Small terms ⌝ }
     ensures { λ r. ⌜ r ≡ cond reverse (negated terms) terms ⌝ }
 {

@@ -1,4 +1,4 @@
--- Demand 3 at work, so that it is seen not to be empty: the plain loop computed beside two lists, and the claim used on the first.
+-- Demand 3 at work, so that it is seen not to be empty: the plain loop computed beside three lists, and the claim used on the first.
 use Prim.Native.Nat.{ℕ, _+_}
 use mathlib.Core.Path.{_≡_, refl}
 use mathlib.Core.Bool.{Bool, true, not, cond, _&&_}
@@ -90,8 +90,9 @@ row : ℕ → ℕ → ℕ → Row
 row number output count = record { number = number; output = output; count = count; exact = true }
 
 -- n is 1 at the entry and goes up by 1 at each sample; the outputs are exact here, as every term is a whole number of units
-loopA-rows : rows 1 reset (startOf resetRecord) loopA
-    ≡ row 0 2000 0
+loopARows : List Row
+loopARows =
+    row 0 2000 0
     ∷ row 0 2000 0
     ∷ row 0 2000 0
     ∷ row 0 2000 0
@@ -103,26 +104,6 @@ loopA-rows : rows 1 reset (startOf resetRecord) loopA
     ∷ row 0 4095 3
     ∷ row 0 1095 4
     ∷ []
-unfolding rows is plainly writing reset loopA row fed answerTo wordsAfter recordsAfter startOf countAfter movedBy plainAfter exactSum exactOutput exactBias clampBy halfUp halfAway rootWithin rootOf over _+ᶠ_ negᶠ ltᶠ roundTo bcd badDigit modeAfter mode2Of badDigits tuningOf settingsOf remoteOf readingOf squaredOver errorOf exactP exactI exactD exactTerms termsOf outsideOf positionOf velocityOf resetRecord badRecord badSetting answerOf pvOf setpointOf entering heldOf engineStart targetOf errorIn sensedOf pastOf positionInputs velocityInputs termsIn movedPosition movedVelocity movedOf drivenOf outputWord biasWord statusWord writtenOf nextOf stepOf writtenTo sampleResult sampleWords storeAnswer storeWords apart levelsOf statusOf
-loopA-rows = refl
-
--- the claim used: what demand 3 says of line 9, the ninth call
-turns : List Turn
-turns = map (λ t. t .turn) loopA
-
-claims : Holds 1 reset (startOf resetRecord) turns
-unfolding reset
-claims = accurate reset refl turns 1 (lit≤ tt) (lit≤ tt)
-
-line9 : Plain
-line9 =
-    let words = set (set (set (set (set (set resetWords 5 2000) 25 4095) 7 256) 8 512) 9 4096) 0 2 in
-    let q = plainAfter (startOf resetRecord) (readingOf words 0 (resetRecord .mode)) 1000 in
-    plainAfter q (readingOf (set (sampleWords words resetRecord 1 1000) 2 1500) 0 (q .mode)) 1000
-
-line9-near : Near (tolerance 2) (whole (pos 3100)) (line9 .output)
-unfolding turns claims line9 Claim Holds rows is plainly writing reset loopA row fed answerTo wordsAfter recordsAfter startOf countAfter movedBy plainAfter exactSum exactOutput exactBias clampBy halfUp halfAway rootWithin rootOf over _+ᶠ_ negᶠ ltᶠ roundTo bcd badDigit modeAfter mode2Of badDigits tuningOf settingsOf remoteOf readingOf squaredOver errorOf exactP exactI exactD exactTerms termsOf outsideOf positionOf velocityOf resetRecord badRecord badSetting answerOf pvOf setpointOf entering heldOf engineStart targetOf errorIn sensedOf pastOf positionInputs velocityInputs termsIn movedPosition movedVelocity movedOf drivenOf outputWord biasWord statusWord writtenOf nextOf stepOf writtenTo sampleResult sampleWords storeAnswer storeWords apart levelsOf statusOf
-line9-near = (claims .1 .1 .1 .1 .1 .1 .1 .1 .0) refl refl .near (lit< tt)
 
 -- ---- two loops, a refused sample between, writes from outside, velocity, Manual and freeze: n of loop 2
 
@@ -153,8 +134,9 @@ mixed =
 seen : Row → List ℕ
 seen r = r .number ∷ r .count ∷ []
 
-mixed-rows : map seen (rows 2 reset (startOf resetRecord) mixed)
-    ≡ (0 ∷ 1 ∷ [])
+mixedRows : List (List ℕ)
+mixedRows =
+    (0 ∷ 1 ∷ [])
     ∷ (4 ∷ 1 ∷ [])
     ∷ (9 ∷ 1 ∷ [])
     ∷ (0 ∷ 2 ∷ [])
@@ -170,5 +152,48 @@ mixed-rows : map seen (rows 2 reset (startOf resetRecord) mixed)
     ∷ (0 ∷ 0 ∷ [])
     ∷ (0 ∷ 0 ∷ [])
     ∷ []
-unfolding words2 mixed seen rows is plainly writing reset loopA row fed answerTo wordsAfter recordsAfter startOf countAfter movedBy plainAfter exactSum exactOutput exactBias clampBy halfUp halfAway rootWithin rootOf over _+ᶠ_ negᶠ ltᶠ roundTo bcd badDigit modeAfter mode2Of badDigits tuningOf settingsOf remoteOf readingOf squaredOver errorOf exactP exactI exactD exactTerms termsOf outsideOf positionOf velocityOf resetRecord badRecord badSetting answerOf pvOf setpointOf entering heldOf engineStart targetOf errorIn sensedOf pastOf positionInputs velocityInputs termsIn movedPosition movedVelocity movedOf drivenOf outputWord biasWord statusWord writtenOf nextOf stepOf writtenTo sampleResult sampleWords storeAnswer storeWords apart levelsOf statusOf
-mixed-rows = refl
+
+-- ---- an entry after Manual, with word 5 above the limit, a rate, another PV, and the setpoint kept (Bumpless II)
+
+settled : List ℕ → List ℕ
+settled ws = set (set (set (set (set (set (set ws 2 900) 5 2000) 25 4095) 7 256) 8 512) 9 4096) 10 256
+
+automatic : List ℕ → List ℕ
+automatic ws = set (set ws 5 5000) 0 10
+
+-- the entry starts from 4,095 and takes no rate: 4,095 − 220 − 22
+entered : List Step
+entered =
+    record { turn = record { outside = settled; call = Sample 1 1000 }; expect = 0 }
+    ∷ record { turn = record { outside = automatic; call = Sample 1 1010 }; expect = 3853 }
+    ∷ plainly (Sample 1 1010) 3831
+    ∷ []
+
+enteredRows : List Row
+enteredRows = row 0 2000 0 ∷ row 0 3853 1 ∷ row 0 3831 2 ∷ []
+
+-- the three lists, computed
+computed : (rows 1 reset (startOf resetRecord) loopA ≡ loopARows) × (map seen (rows 2 reset (startOf resetRecord) mixed) ≡ mixedRows)
+    × (rows 1 reset (startOf resetRecord) entered ≡ enteredRows)
+unfolding loopARows words2 mixed seen mixedRows settled automatic entered enteredRows rows is plainly writing reset loopA row fed answerTo wordsAfter recordsAfter startOf countAfter movedBy plainAfter exactSum exactOutput exactBias clampBy halfUp halfAway rootWithin rootOf over _+ᶠ_ negᶠ ltᶠ roundTo bcd badDigit modeAfter mode2Of badDigits tuningOf settingsOf remoteOf readingOf squaredOver errorOf exactP exactI exactD exactTerms termsOf outsideOf positionOf velocityOf resetRecord badRecord badSetting answerOf pvOf setpointOf entering heldOf engineStart targetOf errorIn sensedOf pastOf positionInputs velocityInputs termsIn movedPosition movedVelocity movedOf drivenOf outputWord biasWord statusWord writtenOf nextOf stepOf writtenTo sampleResult sampleWords storeAnswer storeWords apart levelsOf statusOf
+computed = (refl, refl, refl)
+
+-- ---- the claim used
+
+-- what demand 3 says of line 9, the ninth call
+turns : List Turn
+turns = map (λ t. t .turn) loopA
+
+claims : Holds 1 reset (startOf resetRecord) turns
+unfolding reset
+claims = accurate reset refl turns 1 (lit≤ tt) (lit≤ tt)
+
+line9 : Plain
+line9 =
+    let words = set (set (set (set (set (set resetWords 5 2000) 25 4095) 7 256) 8 512) 9 4096) 0 2 in
+    let q = plainAfter (startOf resetRecord) (readingOf words 0 (resetRecord .mode)) 1000 in
+    plainAfter q (readingOf (set (sampleWords words resetRecord 1 1000) 2 1500) 0 (q .mode)) 1000
+
+line9-near : Near (tolerance 2) (whole (pos 3100)) (line9 .output)
+unfolding turns claims line9 Claim Holds rows is plainly writing reset loopA row fed answerTo wordsAfter recordsAfter startOf countAfter movedBy plainAfter exactSum exactOutput exactBias clampBy halfUp halfAway rootWithin rootOf over _+ᶠ_ negᶠ ltᶠ roundTo bcd badDigit modeAfter mode2Of badDigits tuningOf settingsOf remoteOf readingOf squaredOver errorOf exactP exactI exactD exactTerms termsOf outsideOf positionOf velocityOf resetRecord badRecord badSetting answerOf pvOf setpointOf entering heldOf engineStart targetOf errorIn sensedOf pastOf positionInputs velocityInputs termsIn movedPosition movedVelocity movedOf drivenOf outputWord biasWord statusWord writtenOf nextOf stepOf writtenTo sampleResult sampleWords storeAnswer storeWords apart levelsOf statusOf
+line9-near = (claims .1 .1 .1 .1 .1 .1 .1 .1 .0) refl refl .near (lit< tt)

@@ -10,7 +10,7 @@ ghost use Rattle.engine.specs.Records.{badRecord};
 ghost use Rattle.engine.specs.Refusals.{badSetting, firstOf, casesOn, readingCases};
 
 // A field of the carried record is out of range. The PVs cannot be: they are words.
-pub fn bad_record(c: Carried) -> bool
+fn bad_record(c: Carried) -> bool
     ensures { λ r. ⌜ r ≡ badRecord c ⌝ }
 {
     let bias = c.drive.bias;
@@ -26,7 +26,7 @@ pub fn bad_record(c: Carried) -> bool
 
 // A setting of the list for 8. `cascade` is whether the resulting mode is Cascade, `remote` the
 // word that the pointer names there.
-pub fn bad_setting(s: Settings, cascade: bool, remote: u16) -> bool
+fn bad_setting(s: Settings, cascade: bool, remote: u16) -> bool
     ensures { λ r. ⌜ r ≡ badSetting s cascade remote ⌝ }
 {
     (s.tuning.period < 5)
@@ -44,7 +44,7 @@ pub fn bad_setting(s: Settings, cascade: bool, remote: u16) -> bool
 }
 
 // The first refusal whose condition holds, in the table's order.
-pub fn first_refusal(range: bool, digit: bool, setting: bool, above: bool) -> Answer
+fn first_refusal(range: bool, digit: bool, setting: bool, above: bool) -> Answer
     ensures { λ r. ⌜ r ≡ firstOf (casesOn range digit setting above) ⌝ }
 {
     if range {

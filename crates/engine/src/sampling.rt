@@ -17,7 +17,7 @@ pub struct Sampled {
 }
 
 // Words 0, 2, 3, 4, 5 and 6 of the loop at `base`.
-pub fn write_back(words: &mut [u16], base: usize, w: Written)
+fn write_back(words: &mut [u16], base: usize, w: Written)
     requires { ⌜ base + 32 ≤ length (now words) ⌝ }
     ensures { λ _. ⌜ now (words .exit) ≡ writtenTo (now (words .entry)) base w ⌝ }
 {

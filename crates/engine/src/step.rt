@@ -42,7 +42,7 @@ pub struct Stepped {
 }
 
 // Step 1: the PV, or the root of it.
-pub fn measured(root: bool, scale: u16, raw: u16) -> u16
+fn measured(root: bool, scale: u16, raw: u16) -> u16
     ensures { λ r. ⌜ r ≡ pvOf root scale raw ⌝ }
 {
     if root {
@@ -53,7 +53,7 @@ pub fn measured(root: bool, scale: u16, raw: u16) -> u16
 }
 
 // Step 3: the setpoint.
-pub fn own_setpoint(reading: Reading) -> u16
+fn own_setpoint(reading: Reading) -> u16
     ensures { λ r. ⌜ r ≡ setpointOf reading ⌝ }
 {
     let mode = reading.mode;
@@ -66,7 +66,7 @@ pub fn own_setpoint(reading: Reading) -> u16
 }
 
 // Step 4: whether the sample enters automatic working.
-pub fn enters(former: Mode, mode: Mode, past: bool, velocity: bool) -> bool
+fn enters(former: Mode, mode: Mode, past: bool, velocity: bool) -> bool
     ensures { λ r. ⌜ r ≡ entering former mode past velocity ⌝ }
 {
     let was = is_manual(former);
@@ -75,7 +75,7 @@ pub fn enters(former: Mode, mode: Mode, past: bool, velocity: bool) -> bool
 }
 
 // Steps 3 and 4: the setpoint, forced to the PV at an entry to Automatic with Bumpless I.
-pub fn target_of(reading: Reading, entry: bool, pv: u16) -> u16
+fn target_of(reading: Reading, entry: bool, pv: u16) -> u16
     ensures { λ r. ⌜ r ≡ targetOf reading entry pv ⌝ }
 {
     let mode = reading.mode;
@@ -88,14 +88,14 @@ pub fn target_of(reading: Reading, entry: bool, pv: u16) -> u16
 }
 
 // Step 4: word 5 brought to the nearer output limit.
-pub fn held_word(s: Settings) -> u16
+fn held_word(s: Settings) -> u16
     ensures { λ r. ⌜ r ≡ heldOf s ⌝ }
 {
     numbers::clamp_word(s.stored.output, s.limits.low, s.limits.high)
 }
 
 // Step 4: bias and output to start from.
-pub fn started(entry: bool, held: u16, drive: Drive) -> Drive
+fn started(entry: bool, held: u16, drive: Drive) -> Drive
     ensures { λ r. ⌜ r ≡ startOf entry held drive ⌝ }
 {
     if entry {
@@ -110,7 +110,7 @@ pub fn started(entry: bool, held: u16, drive: Drive) -> Drive
 }
 
 // Step 5 with the loop's settings.
-pub fn error_in(s: Settings, target: u16, pv: u16) -> i64
+fn error_in(s: Settings, target: u16, pv: u16) -> i64
     requires { ⌜ 0 < s .mode2 .format .scale ⌝ }
     ensures { λ r. ⌜ r ≡ errorIn s target pv ⌝ }
 {
@@ -125,7 +125,7 @@ pub fn error_in(s: Settings, target: u16, pv: u16) -> i64
 }
 
 // Steps 1 to 5. `former` and `past` are the mode and the algorithm so far.
-pub fn sensed_by(reading: Reading, former: Mode, past: bool, raw: u16) -> Sensed
+fn sensed_by(reading: Reading, former: Mode, past: bool, raw: u16) -> Sensed
     requires { ⌜ 0 < reading .settings .mode2 .format .scale ⌝ }
     ensures { λ r. ⌜ r ≡ sensedOf reading former past raw ⌝ }
 {
@@ -144,7 +144,7 @@ pub fn sensed_by(reading: Reading, former: Mode, past: bool, raw: u16) -> Sensed
 }
 
 // Step 6: what counts as the past for the terms.
-pub fn past_for(fresh: bool, kept: Past, pv: u16, error: i64) -> Past
+fn past_for(fresh: bool, kept: Past, pv: u16, error: i64) -> Past
     ensures { λ r. ⌜ r ≡ pastOf fresh kept pv error ⌝ }
 {
     if fresh {
@@ -159,7 +159,7 @@ pub fn past_for(fresh: bool, kept: Past, pv: u16, error: i64) -> Past
 }
 
 // Steps 7 to 9: the bias and output after the sample. Manual runs no terms.
-pub fn moved(s: Settings, manual: bool, drive: Drive, past: Past, pv: u16, e: i64) -> Drive
+fn moved(s: Settings, manual: bool, drive: Drive, past: Past, pv: u16, e: i64) -> Drive
     requires { ⌜ Movable s drive past pv e ⌝ }
     ensures { λ r. ⌜ r ≡ movedOf s manual drive past pv e ⌝ }
 {
@@ -173,7 +173,7 @@ pub fn moved(s: Settings, manual: bool, drive: Drive, past: Past, pv: u16, e: i6
 }
 
 // The terms of a sample with the loop's settings.
-pub fn terms_in(s: Settings, inputs: Inputs) -> Terms
+fn terms_in(s: Settings, inputs: Inputs) -> Terms
     requires { ⌜ Tuned (s .tuning) × Bounded inputs ⌝ }
     ensures { λ r. ⌜ r ≡ termsIn s inputs ⌝ }
 {
@@ -182,7 +182,7 @@ pub fn terms_in(s: Settings, inputs: Inputs) -> Terms
 }
 
 // What the terms act on in position form.
-pub fn position_inputs(past: Past, pv: u16, e: i64) -> Inputs
+fn position_inputs(past: Past, pv: u16, e: i64) -> Inputs
     ensures { λ r. ⌜ r ≡ positionInputs past pv e ⌝ }
 {
     let change = numbers::difference(pv, past.last);
@@ -194,7 +194,7 @@ pub fn position_inputs(past: Past, pv: u16, e: i64) -> Inputs
 }
 
 // What they act on in velocity form. The second difference is the change less the one before.
-pub fn velocity_inputs(past: Past, pv: u16, e: i64) -> Inputs
+fn velocity_inputs(past: Past, pv: u16, e: i64) -> Inputs
     requires { ⌜ (natAbs (past .error) ≤ 65535) × (natAbs e ≤ 65535) ⌝ }
     ensures { λ r. ⌜ r ≡ velocityInputs past pv e ⌝ }
 {
@@ -208,7 +208,7 @@ pub fn velocity_inputs(past: Past, pv: u16, e: i64) -> Inputs
 }
 
 // Step 8.
-pub fn moved_position(s: Settings, drive: Drive, past: Past, pv: u16, e: i64) -> Drive
+fn moved_position(s: Settings, drive: Drive, past: Past, pv: u16, e: i64) -> Drive
     requires { ⌜ Movable s drive past pv e ⌝ }
     ensures { λ r. ⌜ r ≡ movedPosition s drive past pv e ⌝ }
 {
@@ -219,7 +219,7 @@ pub fn moved_position(s: Settings, drive: Drive, past: Past, pv: u16, e: i64) ->
 }
 
 // Step 9.
-pub fn moved_velocity(s: Settings, drive: Drive, past: Past, pv: u16, e: i64) -> Drive
+fn moved_velocity(s: Settings, drive: Drive, past: Past, pv: u16, e: i64) -> Drive
     requires { ⌜ Movable s drive past pv e ⌝ }
     ensures { λ r. ⌜ r ≡ movedVelocity s drive past pv e ⌝ }
 {
@@ -230,7 +230,7 @@ pub fn moved_velocity(s: Settings, drive: Drive, past: Past, pv: u16, e: i64) ->
 }
 
 // Step 10: word 5.
-pub fn output_word(manual: bool, held: u16, drive: Drive) -> u16
+fn output_word(manual: bool, held: u16, drive: Drive) -> u16
     requires { ⌜ Counted (drive .output) ⌝ }
     ensures { λ r. ⌜ r ≡ outputWord manual held (drive .output) ⌝ }
 {
@@ -242,7 +242,7 @@ pub fn output_word(manual: bool, held: u16, drive: Drive) -> u16
 }
 
 // Step 10: word 4. `kept` where nothing writes it.
-pub fn bias_word(kept: bool, stored: u16, scale: u16, drive: Drive) -> u16
+fn bias_word(kept: bool, stored: u16, scale: u16, drive: Drive) -> u16
     ensures { λ r. ⌜ r ≡ biasWord kept stored scale (drive .bias) ⌝ }
 {
     if kept {
@@ -253,7 +253,7 @@ pub fn bias_word(kept: bool, stored: u16, scale: u16, drive: Drive) -> u16
 }
 
 // Step 11: what is recorded.
-pub fn next_record(reading: Reading, carried: Carried, sensed: Sensed, drive: Drive) -> Carried
+fn next_record(reading: Reading, carried: Carried, sensed: Sensed, drive: Drive) -> Carried
     ensures { λ r. ⌜ r ≡ nextOf reading carried sensed drive ⌝ }
 {
     let mode = reading.mode;
@@ -272,14 +272,14 @@ pub fn next_record(reading: Reading, carried: Carried, sensed: Sensed, drive: Dr
 }
 
 // The PV before the last: the recorded one, or at the first accepted sample the PV itself.
-pub fn earlier(sampled: bool, last: u16, pv: u16) -> u16
+fn earlier(sampled: bool, last: u16, pv: u16) -> u16
     ensures { λ r. ⌜ r ≡ cond sampled last pv ⌝ }
 {
     if sampled { last } else { pv }
 }
 
 // Steps 6 to 9: the bias and output after the sample. `held` is word 5 inside the limits.
-pub fn driven(reading: Reading, carried: Carried, sensed: Sensed, held: u16) -> Drive
+fn driven(reading: Reading, carried: Carried, sensed: Sensed, held: u16) -> Drive
     requires { ⌜ Drivable reading carried sensed held ⌝ }
     ensures { λ r. ⌜ r ≡ drivenOf reading carried sensed held ⌝ }
 {
@@ -299,7 +299,7 @@ pub fn driven(reading: Reading, carried: Carried, sensed: Sensed, held: u16) -> 
 }
 
 // Word 6.
-pub fn status_after(reading: Reading, carried: Carried, sensed: Sensed, output: u16) -> u16
+fn status_after(reading: Reading, carried: Carried, sensed: Sensed, output: u16) -> u16
     ensures { λ r. ⌜ r ≡ statusWord reading carried sensed output ⌝ }
 {
     let mode = reading.mode;
@@ -323,7 +323,7 @@ pub fn status_after(reading: Reading, carried: Carried, sensed: Sensed, output: 
 }
 
 // The words that the sample writes.
-pub fn words_after(
+fn words_after(
     reading: Reading,
     carried: Carried,
     sensed: Sensed,

@@ -6,7 +6,7 @@ ghost use Rattle.engine.specs.Refusals.{numberOf, firstNumber};
 ghost use Rattle.engine.specs.Stores.{engineWord, storeCases, storeAnswer, storeWords};
 
 // The words of a loop that only the engine writes: PV, bias, status and ramp/soak errors.
-pub fn engine_word(address: u16) -> bool
+fn engine_word(address: u16) -> bool
     ensures { λ r. ⌜ r ≡ engineWord address ⌝ }
 {
     (address < 512)

@@ -90,7 +90,7 @@ pub struct Reading {
     pub remote: u16,
 }
 
-pub fn read_mode1(word: u16) -> Mode1
+fn read_mode1(word: u16) -> Mode1
     ensures { λ r. ⌜ r ≡ mode1Of word ⌝ }
 {
     Mode1 {
@@ -112,7 +112,7 @@ pub fn read_mode1(word: u16) -> Mode1
     }
 }
 
-pub fn unused_bits(word: u16) -> bool
+fn unused_bits(word: u16) -> bool
     ensures { λ r. ⌜ r ≡ unusedBits word ⌝ }
 {
     (word / 1 % 2 == 1)
@@ -129,7 +129,7 @@ pub fn unused_bits(word: u16) -> bool
         | (word / 32768 % 2 == 1)
 }
 
-pub fn read_mode2(word: u16) -> Mode2
+fn read_mode2(word: u16) -> Mode2
     ensures { λ r. ⌜ r ≡ mode2Of word ⌝ }
 {
     let format = Format::new(word);
@@ -141,14 +141,14 @@ pub fn read_mode2(word: u16) -> Mode2
     }
 }
 
-pub fn bad_digits(w: &[u16]) -> bool
+fn bad_digits(w: &[u16]) -> bool
     requires { ⌜ 32 ≤ length (now w) ⌝ }
     ensures { λ r. ⌜ r ≡ badDigits (now (w .entry)) ⌝ }
 {
     bad_digit(w[7]) | bad_digit(w[8]) | bad_digit(w[9]) | bad_digit(w[10])
 }
 
-pub fn read_tuning(w: &[u16]) -> Tuning
+fn read_tuning(w: &[u16]) -> Tuning
     requires { ⌜ 32 ≤ length (now w) ⌝ }
     ensures { λ r. ⌜ r ≡ tuningOf (now (w .entry)) ⌝ }
 {
@@ -160,7 +160,7 @@ pub fn read_tuning(w: &[u16]) -> Tuning
     }
 }
 
-pub fn read_alarm_limits(w: &[u16]) -> AlarmLimits
+fn read_alarm_limits(w: &[u16]) -> AlarmLimits
     requires { ⌜ 32 ≤ length (now w) ⌝ }
     ensures { λ r. ⌜ r ≡ alarmLimitsOf (now (w .entry)) ⌝ }
 {
@@ -176,7 +176,7 @@ pub fn read_alarm_limits(w: &[u16]) -> AlarmLimits
     }
 }
 
-pub fn read_stored(w: &[u16]) -> Stored
+fn read_stored(w: &[u16]) -> Stored
     requires { ⌜ 32 ≤ length (now w) ⌝ }
     ensures { λ r. ⌜ r ≡ storedOf (now (w .entry)) ⌝ }
 {
@@ -190,7 +190,7 @@ pub fn read_stored(w: &[u16]) -> Stored
 }
 
 // A loop's 32 words.
-pub fn read_settings(w: &[u16]) -> Settings
+fn read_settings(w: &[u16]) -> Settings
     requires { ⌜ 32 ≤ length (now w) ⌝ }
     ensures { λ r. ⌜ r ≡ settingsOf (now (w .entry)) ⌝ }
 {
@@ -220,7 +220,7 @@ pub fn read_settings(w: &[u16]) -> Settings
 }
 
 // The word that the setpoint pointer names, in Cascade; else 0.
-pub fn read_remote(words: &[u16], mode: Mode, pointer: u16) -> u16
+fn read_remote(words: &[u16], mode: Mode, pointer: u16) -> u16
     ensures { λ r. ⌜ r ≡ remoteOf (now (words .entry)) mode pointer ⌝ }
 {
     let cascade = is_cascade(mode);
