@@ -6,28 +6,28 @@ ghost use mathlib.Core.Path.{_≡_};
 ghost use Rattle.alarms.specs.Status.{highAlarm, lowAlarm, apart, unordered, atLimit};
 
 // On above the limit; once on, on while x > limit − hysteresis.
-pub fn high_alarm(was: bool, limit: u16, hysteresis: u16, x: u16) -> bool
+pub(crate) fn high_alarm(was: bool, limit: u16, hysteresis: u16, x: u16) -> bool
     ensures { λ r. ⌜ r ≡ highAlarm was limit hysteresis x ⌝ }
 {
     (limit < x) | (was & ((limit as u32) < x as u32 + hysteresis as u32))
 }
 
 // On below the limit; once on, on while x < limit + hysteresis.
-pub fn low_alarm(was: bool, limit: u16, hysteresis: u16, x: u16) -> bool
+pub(crate) fn low_alarm(was: bool, limit: u16, hysteresis: u16, x: u16) -> bool
     ensures { λ r. ⌜ r ≡ lowAlarm was limit hysteresis x ⌝ }
 {
     (x < limit) | (was & ((x as u32) < limit as u32 + hysteresis as u32))
 }
 
 // |a − b|.
-pub fn distance(a: u16, b: u16) -> u16
+pub(crate) fn distance(a: u16, b: u16) -> u16
     ensures { λ r. ⌜ r ≡ apart a b ⌝ }
 {
     if a < b { b - a } else { a - b }
 }
 
 // The settings of alarms that are on contradict each other.
-pub fn contradiction(bits: Mode1, limits: AlarmLimits) -> bool
+pub(crate) fn contradiction(bits: Mode1, limits: AlarmLimits) -> bool
     ensures { λ r. ⌜ r ≡ unordered bits limits ⌝ }
 {
     (bits.level
@@ -38,7 +38,13 @@ pub fn contradiction(bits: Mode1, limits: AlarmLimits) -> bool
 }
 
 // The output stands at one of its limits while the PV is off the setpoint.
-pub fn saturated(manual: bool, limits: OutputLimits, output: u16, setpoint: u16, pv: u16) -> bool
+pub(crate) fn saturated(
+    manual: bool,
+    limits: OutputLimits,
+    output: u16,
+    setpoint: u16,
+    pv: u16,
+) -> bool
     ensures { λ r. ⌜ r ≡ atLimit manual limits output setpoint pv ⌝ }
 {
     !manual & ((output == limits.low) | (output == limits.high)) & (pv != setpoint)

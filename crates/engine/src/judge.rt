@@ -10,7 +10,7 @@ ghost use Rattle.engine.specs.Records.{badRecord};
 ghost use Rattle.engine.specs.Refusals.{badSetting, firstOf, casesOn, readingCases};
 
 // A field of the carried record is out of range. The PVs cannot be: they are words.
-fn bad_record(c: Carried) -> bool
+pub fn bad_record(c: Carried) -> bool
     ensures { λ r. ⌜ r ≡ badRecord c ⌝ }
 {
     let bias = c.drive.bias;
@@ -60,7 +60,7 @@ fn first_refusal(range: bool, digit: bool, setting: bool, above: bool) -> Answer
     }
 }
 
-pub fn judge(reading: Reading, carried: Carried, raw: u16) -> Answer
+pub(crate) fn judge(reading: Reading, carried: Carried, raw: u16) -> Answer
     ensures { λ r. ⌜ r ≡ firstOf (readingCases reading carried raw) ⌝ }
 {
     let settings = reading.settings;

@@ -7,6 +7,7 @@ mod sampling;
 mod step;
 mod storing;
 
+pub use judge::bad_record;
 pub use record::Carried;
 pub use record::Past;
 pub use record::reset_record;

@@ -356,7 +356,7 @@ fn words_after(
 }
 
 // An accepted sample.
-pub fn step(reading: Reading, carried: Carried, raw: u16) -> Stepped
+pub(crate) fn step(reading: Reading, carried: Carried, raw: u16) -> Stepped
     requires { ⌜ Usable reading carried raw ⌝ }
     ensures { λ r. ⌜ r ≡ stepOf reading carried raw ⌝ }
 {

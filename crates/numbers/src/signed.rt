@@ -6,7 +6,7 @@ ghost use lib.Signed.{_≤ℤ_};
 ghost use Rattle.numbers.specs.Rounding.{withSign};
 
 // An unsigned number as a signed one.
-pub fn to_signed(n: u64) -> i64
+pub(crate) fn to_signed(n: u64) -> i64
     requires { ⌜ n < 2 ^ 63 ⌝ }
     ensures { λ r. ⌜ r ≡ pos n ⌝ }
 {
@@ -14,7 +14,7 @@ pub fn to_signed(n: u64) -> i64
 }
 
 // A signed number that is not negative as an unsigned one.
-pub fn to_unsigned(z: i64) -> u64
+pub(crate) fn to_unsigned(z: i64) -> u64
     requires { ⌜ pos 0 ≤ℤ z ⌝ }
     ensures { λ r. ⌜ r ≡ natAbs z ⌝ }
 {

@@ -1,12 +1,14 @@
 -- Demands 1 and 3 of every drill file: a refused record leaves all, and a run is the desk's calls in a row, so each accepted sample of each
--- loop is accurate.
-use Prim.Native.Nat.{ℕ, _≤_, _<_}
+-- loop is accurate. What the program prints is the whole text.
+use Prim.Native.Nat.{ℕ, _+_, _*_, _≤_, _<_}
 use native.Mathlib.Omega.{arith}
 use mathlib.Core.Path.{_≡_, refl}
+use mathlib.Core.Bool.{Bool, true, false, cond}
 use mathlib.Core.List.{List, [], _∷_}
 use lib.ListN.{length}
 use lib.Seq.{set-getD}
-use borrow.Author.Tests.{eq-eqb}
+use lib.Dec.{ltb}
+use borrow.Author.Tests.{eq-eqb, le-ltb, ltb-false}
 use Rattle.reader.specs.declared.Record.{Record}
 use Rattle.reader.specs.declared.Record.the-variants.{Store, Sample, Refused}
 use Rattle.reader.specs.File.{recordsOf}
@@ -22,7 +24,7 @@ use Rattle.desk.specs.Calls.{slotOf, recordOf, answerTo, wordsAfter, recordsAft
 use Rattle.desk.specs.Lists.{Desk, Holds}
 use Rattle.desk.specs.Plain.{startOf}
 use Rattle.desk.proofs.Accuracy.{accurate}
-use Rattle.session.specs.Session.{deskAfter, numberFor, State, begun, after, runOf, sessionOf, turnsOf, deskBehind}
+use Rattle.session.specs.Session.{deskAfter, numberFor, State, begun, after, runOf, sessionOf, turnsOf, deskBehind, printedOf, printedWithin}
 
 -- the words and records that some records leave are those of the desk after their turns
 run-turns : (t : State) (xs : List Record) → runOf t xs .desk ≡ deskBehind (t .desk) (turnsOf xs)
@@ -61,3 +63,12 @@ module _ (file ws : List ℕ) (cs : List Carried) where
   -- and each loop is accurate over them
   pub drilled : length cs ≡ 16 → (k : ℕ) → 1 ≤ k → k ≤ 16 → Holds k desk (startOf (recordOf cs k)) (turnsOf (recordsOf file))
   drilled sixteen = accurate desk sixteen (turnsOf (recordsOf file))
+
+-- the room that `output_buffer` gives is enough for every file
+enough : (b : Bool) (n : ℕ) → ltb 65536 n ≡ b → cond b 9 (10 * n + 100) ≤ 655460
+enough true n e = omega arith
+enough false n e = omega (arith, ltb-false 65536 n e)
+
+pub printed-whole : (file : List ℕ) → printedWithin 655460 file ≡ printedOf file
+unfolding printedWithin
+printed-whole file = rw (le-ltb 655460 _ (enough (ltb 65536 (length file)) (length file) refl))

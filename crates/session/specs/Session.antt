@@ -1,5 +1,5 @@
 -- A drill file carried out and printed: document 01, "Drill file" and "The drill program and its worked loop", sentence by sentence.
-use Prim.Native.Nat.{ℕ, _+_}
+use Prim.Native.Nat.{ℕ, _+_, _*_}
 use mathlib.Core.Bool.{cond}
 use mathlib.Core.List.{List, [], _∷_, _++_}
 use lib.ListN.{length, getD}
@@ -175,11 +175,25 @@ unfoldable pub linesOf : State → List Record → List ℕ
 linesOf t [] = lastOf (t .count) (t .refused)
 linesOf t (x ∷ xs) = lineOf (t .count + 1) x (numberFor (t .desk) x) (deskAfter (t .desk) x .words) ++ linesOf (after t x) xs
 
--- what the program prints of its input, from reset: "A longer file prints `too long` only."
+-- "A longer file prints `too long` only."
+abbrev pub tooLong : List ℕ
+tooLong = 116 ∷ 111 ∷ 111 ∷ 32 ∷ 108 ∷ 111 ∷ 110 ∷ 103 ∷ 10 ∷ []
+
+-- what the program prints of its input, from reset
 unfoldable pub printedOf : List ℕ → List ℕ
-printedOf file =
-    cond (ltb 65536 (length file)) (116 ∷ 111 ∷ 111 ∷ 32 ∷ 108 ∷ 111 ∷ 110 ∷ 103 ∷ 10 ∷ [])
-    (linesOf (begun resetWords resetRecords) (recordsOf file))
+printedOf file = cond (ltb 65536 (length file)) tooLong (linesOf (begun resetWords resetRecords) (recordsOf file))
+
+-- a text that is written only where there is room for some number of bytes
+abbrev pub withRoom : ℕ → ℕ → List ℕ → List ℕ
+withRoom room need text = cond (ltb room need) [] text
+
+-- the room for what is printed of a file: no record prints more than ten bytes for each of its own, and the last line takes at most 60
+abbrev pub roomFor : List ℕ → ℕ
+roomFor file = cond (ltb 65536 (length file)) 9 (10 * length file + 100)
+
+-- what is printed into a buffer of some length
+unfoldable pub printedWithin : ℕ → List ℕ → List ℕ
+printedWithin room file = withRoom room (roomFor file) (printedOf file)
 
 -- ---- the file as a list of calls
 

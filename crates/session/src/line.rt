@@ -107,7 +107,7 @@ fn put_said(out: &mut [u8], at: usize, item: Record, number: u8, words: &[u16]) 
 }
 
 // The line of the nth record, n having at most five digits.
-pub fn put_line(
+pub(crate) fn put_line(
     out: &mut [u8],
     at: usize,
     n: usize,
@@ -125,7 +125,7 @@ pub fn put_line(
 }
 
 // The last line.
-pub fn put_last(out: &mut [u8], at: usize, count: usize, refused: usize) -> usize
+pub(crate) fn put_last(out: &mut [u8], at: usize, count: usize, refused: usize) -> usize
     requires { ⌜ at + 60 ≤ length (now out) ⌝ }
     ensures { λ r. ⌜ Written (now (out .entry)) at (lastOf count refused) (now (out .exit)) r ⌝ }
     ensures { λ r. ⌜ r ≤ at + 60 ⌝ }

@@ -7,10 +7,10 @@ use crate::turn::slot_for;
 use engine::Carried;
 ghost use mathlib.Core.Path.{_≡_};
 ghost use Prim.Native.Nat.{_+_, _*_, _≤_};
-ghost use lib.ListN.{length, take};
+ghost use lib.ListN.{length, take, replicate};
 ghost use Rattle.text.specs.Text.{Written};
 ghost use Rattle.reader.specs.File.{recordsOf};
-ghost use Rattle.session.specs.Session.{begun, linesOf, printedOf};
+ghost use Rattle.session.specs.Session.{begun, linesOf, tooLong, withRoom, printedWithin};
 
 // Every record of a file in turn, with its line, and the last line: from the start of `out`. Answers
 // how many bytes these are: at most ten for each byte of the file, and a last line.
@@ -40,15 +40,29 @@ fn transcript(file: &[u8], words: &mut [u16], records: [Carried; 16], out: &mut 
     put_last(out, place, count, refused)
 }
 
-// The whole printed text, from the start of `out`. Answers how many bytes it is.
+// What is printed of an input that is too long, where there is room.
+fn put_too_long(out: &mut [u8]) -> usize
+    ensures { λ r. ⌜ Written (now (out .entry)) 0 (withRoom (length (now (out .entry))) 9 tooLong) (now (out .exit)) r ⌝ }
+    ensures { λ r. ⌜ r ≤ length (now (out .entry)) ⌝ }
+{
+    if out.len() < 9 {
+        return 0;
+    }
+    text::put_text(out, 0, b"too long\n")
+}
+
+// The whole printed text, from the start of `out`. Answers how many bytes it is; 0, and nothing is
+// written, where `out` is too short: ten bytes for each byte of the input, and 100, are enough.
 pub fn drill(input: &[u8], out: &mut [u8]) -> usize
-    requires { ⌜ 655460 ≤ length (now out) ⌝ }
-    ensures printed { λ r. ⌜ take r (now (out .exit)) ≡ printedOf (now (input .entry)) ⌝ }
+    ensures printed { λ r. ⌜ take r (now (out .exit)) ≡ printedWithin (length (now (out .entry))) (now (input .entry)) ⌝ }
     ensures room { λ r. ⌜ (r ≤ length (now (out .exit))) × (r ≡ length (take r (now (out .exit)))) ⌝ }
-    ensures rest { λ r. ⌜ Written (now (out .entry)) 0 (printedOf (now (input .entry))) (now (out .exit)) r ⌝ }
+    ensures rest { λ r. ⌜ Written (now (out .entry)) 0 (printedWithin (length (now (out .entry))) (now (input .entry))) (now (out .exit)) r ⌝ }
 {
     if 65536 < input.len() {
-        return text::put_text(out, 0, b"too long\n");
+        return put_too_long(out);
+    }
+    if out.len() < 10 * input.len() + 100 {
+        return 0;
     }
     let mut words = desk::reset_words();
     let records = desk::reset_records();
@@ -57,14 +71,14 @@ pub fn drill(input: &[u8], out: &mut [u8]) -> usize
 
 // Room for an input of 65,536 bytes and one more, by which a longer one is known.
 pub fn input_buffer() -> [u8; 65537]
-    ensures { λ r. ⌜ 65537 ≡ length r ⌝ }
+    ensures { λ r. ⌜ (r ≡ replicate 65537 0) × (65537 ≡ length r) ⌝ }
 {
     [0; 65537]
 }
 
 // Room for what any input prints.
 pub fn output_buffer() -> [u8; 655460]
-    ensures { λ r. ⌜ 655460 ≡ length r ⌝ }
+    ensures { λ r. ⌜ (r ≡ replicate 655460 0) × (655460 ≡ length r) ⌝ }
 {
     [0; 655460]
 }

@@ -12,7 +12,7 @@ pub struct Acted {
 }
 
 // The place of the carried record that a record works on. Only a sample changes it.
-pub fn slot_for(item: Record) -> usize
+pub(crate) fn slot_for(item: Record) -> usize
     ensures { λ r. ⌜ (r ≡ slotFor item) × (r < 16) ⌝ }
 {
     match item {
@@ -22,7 +22,7 @@ pub fn slot_for(item: Record) -> usize
     }
 }
 
-pub fn act(item: Record, words: &mut [u16], carried: Carried) -> Acted
+pub(crate) fn act(item: Record, words: &mut [u16], carried: Carried) -> Acted
     ensures { λ r. ⌜ done (r .number) (now (words .exit)) (r .carried) ≡ actOf (now (words .entry)) carried item ⌝ }
 {
     match item {
@@ -49,7 +49,7 @@ pub fn act(item: Record, words: &mut [u16], carried: Carried) -> Acted
 }
 
 // How many refusals a number counts for.
-pub fn refusals(number: u8) -> usize
+pub(crate) fn refusals(number: u8) -> usize
     ensures { λ r. ⌜ r ≡ countOf number ⌝ }
 {
     if number == 0 { 0 } else { 1 }

@@ -40,7 +40,7 @@ pub fn is_cascade(mode: Mode) -> bool
 }
 
 // Step 2: the lowest request bit that is set gives the mode, and none keeps it.
-pub fn mode_after(bits: Mode1, former: Mode) -> Mode
+pub(crate) fn mode_after(bits: Mode1, former: Mode) -> Mode
     ensures { λ r. ⌜ r ≡ modeAfter bits former ⌝ }
 {
     if bits.manual {

@@ -4,21 +4,21 @@ ghost use lib.ListN.{getD};
 ghost use Rattle.table.specs.Words.{bcd, badDigit, clearRequests};
 
 // Four BCD digits as a number.
-pub fn decimal(word: u16) -> u16
+pub(crate) fn decimal(word: u16) -> u16
     ensures { λ r. ⌜ r ≡ bcd word ⌝ }
 {
     word / 4096 % 16 * 1000 + word / 256 % 16 * 100 + word / 16 % 16 * 10 + word % 16
 }
 
 // Whether one of the four digits is above 9.
-pub fn bad_digit(word: u16) -> bool
+pub(crate) fn bad_digit(word: u16) -> bool
     ensures { λ r. ⌜ r ≡ badDigit word ⌝ }
 {
     (9 < word / 4096 % 16) | (9 < word / 256 % 16) | (9 < word / 16 % 16) | (9 < word % 16)
 }
 
 // The word at an address; 0 where there is none.
-pub fn word_at(words: &[u16], address: u16) -> u16
+pub(crate) fn word_at(words: &[u16], address: u16) -> u16
     ensures { λ r. ⌜ r ≡ getD (now (words .entry)) address 0 ⌝ }
 {
     let at = address as usize;

@@ -1,30 +1,36 @@
--- `session::drill` meets its contract: each branch is the case of `printedOf` that its test picks.
+-- `session::drill` meets its contract: each branch is the case of `printedWithin` that its tests pick.
 use native.Mathlib.Omega.{arith}
+use mathlib.Core.Path.{refl}
 use lib.ListN.{length}
 use borrow.Author.Tests.{lt-ltb, le-ltb}
-use Rattle.session.specs.Session.{printedOf}
+use Rattle.session.specs.Session.{printedOf, printedWithin}
 use Rattle.session.proofs.Loops.{printed}
 use borrow.Author.Needs.{needs}
 use Rattle.session.proofs.printing.drill.Statement.{statement}
 use Rattle.session.proofs.printing.drill.Tie as tie
 
-slice-aggregate-put-text : tie.Need-slice-aggregate-put-text
-slice-aggregate-put-text c = search needs
-
-put-text-requires : tie.Need-put-text-requires
-put-text-requires c κs = search needs
+put-too-long-requires : tie.Need-put-too-long-requires
+put-too-long-requires c κs = search needs
 
 same-length : tie.Need-same-length
 same-length c = search needs
 
 returns : tie.Need-returns
-unfolding printedOf
+unfolding printedWithin printedOf
 returns c =
     let p = c .before .before in
-    let t = p .before .before .before in
-    let s = t .before .before .before in
-    rw (lt-ltb 65536 (length (s .args .input .now)) (t .if1 .taken))
-    (printed (p .put-text .ensures) (omega (arith, p .put-text .ensures .place, s .pre)))
+    rw (lt-ltb 65536 _ (p .before .before .if1 .taken)) (printed (p .put-too-long .ensures .0) (p .put-too-long .ensures .1))
+
+mul-if2 : tie.Need-mul-if2
+mul-if2 c = omega (arith, c .if1 .left)
+
+add-if2 : tie.Need-add-if2
+add-if2 c = omega (arith, c .if1 .left)
+
+returns-2 : tie.Need-returns-2
+unfolding printedWithin printedOf
+returns-2 c =
+    rw (le-ltb 65536 _ (c .before .if1 .left), lt-ltb _ _ (c .if2 .taken)) (printed (record { buffer = refl; place = refl }) (omega arith))
 
 reset-words-requires : tie.Need-reset-words-requires
 reset-words-requires c κs = search needs
@@ -41,28 +47,29 @@ transcript-requires c κs = search needs
 same-length-2 : tie.Need-same-length-2
 same-length-2 c = search needs
 
-returns-2 : tie.Need-returns-2
-unfolding printedOf
-returns-2 c =
+returns-3 : tie.Need-returns-3
+unfolding printedWithin printedOf
+returns-3 c =
     let t = c .before .before .before in
     let r = t .before .before .before in
     let e = r .before .before in
-    let s = e .before .before .before in
     let w = rw (r .before .reset-words .ensures, r .reset-records .ensures) at (t .transcript .ensures .0) in
-    rw (le-ltb 65536 (length (s .args .input .now)) (e .if1 .left))
-    (printed w (omega (arith, t .transcript .ensures .1, e .if1 .left, s .pre)))
+    rw (le-ltb 65536 _ (e .before .if1 .left), le-ltb _ _ (e .if2 .left))
+    (printed w (omega (arith, t .transcript .ensures .1, e .if2 .left)))
 
 pub drill-spec : {M : Type 1} → statement M
 drill-spec =
     tie.close
     (tie.spec
-    slice-aggregate-put-text
-    put-text-requires
+    put-too-long-requires
     same-length
     returns
+    mul-if2
+    add-if2
+    returns-2
     reset-words-requires
     reset-records-requires
     slice-aggregate-transcript
     transcript-requires
     same-length-2
-    returns-2)
+    returns-3)

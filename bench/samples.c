@@ -1,0 +1,77 @@
+/* One engine sampled N times: `samples N` prints how many samples were refused, a sum over all lines, and the
+ * nanoseconds a sample. Compiled with -DPLAIN it runs the plain engine, else the archive; all else is the same.
+ * Raw PVs are made before the first sample, so that a run with N = 0 has all of the work but the samples. */
+#include "kexbardi.h"
+#include "plain_engine.h"
+
+#include <stdio.h>
+#include <stdlib.h>
+#include <time.h>
+
+#ifdef PLAIN
+#define RESET plain_reset
+#define STORE plain_store
+#define SAMPLE plain_sample
+#else
+#define RESET kexbardi_reset
+#define STORE kexbardi_store
+#define SAMPLE kexbardi_sample
+#endif
+
+#define RAWS 16384 /* a multiple of 16: a loop's raw PVs stay its own */
+
+static uint16_t words[KEXBARDI_WORDS], raws[RAWS];
+static int64_t records[KEXBARDI_NUMBERS];
+static unsigned refused;
+
+static void store(unsigned address, unsigned value) { refused += STORE(words, KEXBARDI_WORDS, (uint16_t)address, (uint16_t)value) != 0; }
+
+static unsigned bcd(unsigned n) { return n / 1000 % 10 << 12 | n / 100 % 10 << 8 | n / 10 % 10 << 4 | n % 10; }
+
+static const unsigned mode_2s[] = {0, 2, 512}, full_scales[] = {4095, 32767, 65535};
+
+/* every mode, position and velocity, the formats, root, alarms on: the full file of files.c */
+static void settle(unsigned loop) {
+    unsigned base = KEXBARDI_ADDRESS(loop, 0), full = full_scales[loop % 3];
+    store(base + KEXBARDI_MODE_1, 1u << loop % 3 | (loop % 4 == 0 ? 32 : 0) | (loop % 5 == 0 ? 64 : 0) | 0x7000);
+    store(base + KEXBARDI_MODE_2, mode_2s[loop % 3]);
+    store(base + KEXBARDI_SETPOINT, full / 2);
+    store(base + KEXBARDI_OUTPUT, full / 3);
+    store(base + KEXBARDI_PERIOD, bcd(100));
+    store(base + KEXBARDI_GAIN, bcd(40 + 10 * loop));
+    store(base + KEXBARDI_RESET, bcd(1000 + loop));
+    store(base + KEXBARDI_RATE, bcd(loop % 2 * 25));
+    for (unsigned n = 0; n < 4; n++) store(base + KEXBARDI_LOW_LOW + n, full / 5 * (n + 1));
+    store(base + KEXBARDI_YELLOW, full / 10);
+    store(base + KEXBARDI_RED, full / 5);
+    store(base + KEXBARDI_CHANGE, full / 6);
+    store(base + KEXBARDI_HYSTERESIS, 10);
+    store(base + KEXBARDI_OUTPUT_HIGH, full);
+    store(base + KEXBARDI_POINTER, 600);
+}
+
+static void make_raws(void) {
+    uint64_t seed = 88172645463325252ull;
+    for (unsigned n = 0; n < RAWS; n++) {
+        seed ^= seed << 13, seed ^= seed >> 7, seed ^= seed << 17;
+        raws[n] = (uint16_t)((seed >> 20) % (full_scales[(n % KEXBARDI_LOOPS + 1) % 3] + 1));
+    }
+}
+
+int main(int count, char **args) {
+    unsigned long samples = count == 2 ? strtoul(args[1], NULL, 10) : 0, sum = 0;
+    refused += RESET(words, KEXBARDI_WORDS, records, KEXBARDI_NUMBERS) != 0;
+    for (unsigned loop = 1; loop <= KEXBARDI_LOOPS; loop++) settle(loop);
+    store(600, 2000);
+    make_raws();
+    uint16_t line[4] = {0};
+    clock_t start = clock();
+    for (unsigned long n = 0; n < samples; n++) {
+        refused += SAMPLE(words, KEXBARDI_WORDS, records, KEXBARDI_NUMBERS, (uint8_t)(n % KEXBARDI_LOOPS + 1), raws[n % RAWS], line) != 0;
+        sum = sum * 31 + line[2] + line[3];
+    }
+    double seconds = (double)(clock() - start) / CLOCKS_PER_SEC;
+    printf("%u refused, sum %lu\n", refused, sum);
+    if (samples) printf("%.1f\n", 1e9 * seconds / (double)samples);
+    return refused != 0;
+}

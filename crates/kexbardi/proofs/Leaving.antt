@@ -1,0 +1,69 @@
+-- What each exported call leaves, from what its callees ensure, in plain values.
+use Prim.Native.Nat.{ℕ, _+_, _*_, _≤_}
+use native.Mathlib.Omega.{arith}
+use mathlib.Core.Path.{_≡_, refl, sym, ap, _∙_}
+use mathlib.Core.Logic.{_≢_}
+use mathlib.Core.List.{List, [], _∷_}
+use lib.IntN.{ℤ, pos}
+use lib.ListN.{length, replicate}
+use lib.Seq.{sets}
+use borrow.Author.Tests.{eq-eqb, ne-eqb}
+use Rattle.text.specs.Text.{Written}
+use Rattle.engine.specs.declared.record.Carried.{Carried}
+use Rattle.engine.specs.declared.refusal.Refusal.{Refusal}
+use Rattle.engine.specs.declared.refusal.Answer.the-variants.{Accepted, Refused}
+use Rattle.engine.specs.declared.sampling.Sampled.{Sampled}
+use Rattle.engine.specs.Records.{resetRecord}
+use Rattle.engine.specs.Refusals.{numberOf, answerOf}
+use Rattle.engine.specs.Samples.{sampleResult, sampleWords}
+use Rattle.desk.specs.Calls.{resetWords, resetRecords, slotOf}
+use Rattle.session.specs.declared.running.Ended.{Ended}
+use Rattle.session.specs.Session.{whole, sessionOf, answersOf}
+use Rattle.kexbardi.specs.Layout.{numbersOf, allNumbers, recordAt, recordsIn, keptIn}
+use Rattle.kexbardi.specs.Interface.{desk, resetLeft, lineOf, left, sampleLeft, ranBy, runLeft, runAnswers, printed, printedBy}
+
+-- the records at reset are 128 zeros
+pub reset-numbers : allNumbers resetRecords ≡ replicate 128 (pos 0)
+unfolding allNumbers numbersOf resetRecord
+reset-numbers = refl
+
+-- words and records of the right lengths
+module _ (ws : List ℕ) (ns : List ℤ) (words : length ws ≡ 1024) (numbers : length ns ≡ 128) where
+  pub reset-done : {ws′ : List ℕ} {ns′ : List ℤ} → ws′ ≡ replicate (length ws) 0 → ns′ ≡ replicate (length ns) (pos 0) → desk 0 ws′ ns′ ≡ resetLeft ws ns
+  unfolding resetLeft
+  reset-done e f = rw (eq-eqb _ _ words, eq-eqb _ _ numbers, e, f, words, numbers, reset-numbers)
+
+  -- a sample of loop k
+  module _ (line : List ℕ) (k raw : ℕ) (done : Sampled) (by : done ≡ sampleResult ws (recordAt ns (8 * slotOf k)) k raw) {ws′ : List ℕ}
+      (after : ws′ ≡ sampleWords ws (recordAt ns (8 * slotOf k)) k raw) where
+    pub refused : (why : Refusal) → done .answer ≡ Refused why → left (numberOf (Refused why)) ws′ ns line ≡ sampleLeft ws ns line k raw
+    unfolding sampleLeft sampleResult
+    refused why e =
+        let a : answerOf ws (recordAt ns (8 * slotOf k)) k raw ≡ Refused why = sym (ap (λ (d : Sampled). d .answer) by) ∙ e in
+        rw (eq-eqb _ _ words, eq-eqb _ _ numbers, a, after)
+
+    pub accepted : done .answer ≡ Accepted → {ns′ : List ℤ} {line′ : List ℕ} → ns′ ≡ sets ns (8 * slotOf k) (numbersOf (done .carried))
+        → line′ ≡ sets line 0 (lineOf ws′ (32 * slotOf k)) → left 0 ws′ ns′ line′ ≡ sampleLeft ws ns line k raw
+    unfolding sampleLeft sampleResult
+    accepted e put shown =
+        let a : answerOf ws (recordAt ns (8 * slotOf k)) k raw ≡ Accepted = sym (ap (λ (d : Sampled). d .answer) by) ∙ e in
+        rw (eq-eqb _ _ words, eq-eqb _ _ numbers, put, shown, after, by, a)
+
+  -- a file carried out, with how the session ended and its records
+  module _ (file : List ℕ) (ended : Ended) (cs : List Carried) {ws′ : List ℕ} (by : whole ended ws′ cs ≡ sessionOf file ws (recordsIn ns)) where
+    pub carried-out : {ns′ : List ℤ} → ns′ ≡ keptIn ns cs → (count refused : ℕ) → ranBy ended ws′ ns′ count refused ≡ runLeft file ws ns count refused
+    unfolding runLeft
+    carried-out kept count refused = rw (eq-eqb _ _ words, eq-eqb _ _ numbers, sym by, kept)
+
+  pub answered : (file : List ℕ) → answersOf file ws (recordsIn ns) ≡ runAnswers file ws ns
+  unfolding runAnswers
+  answered file = rw (eq-eqb _ _ words, eq-eqb _ _ numbers)
+
+-- a text printed, and none
+pub print-none : (text : List ℕ) {out out′ : List ℕ} {r : ℕ} (size : ℕ) → Written out 0 text out′ r → r ≡ 0 → printed 5 out′ size ≡ printedBy text out size
+print-none [] size w e = ap (λ (o : List ℕ). printed 5 o size) (w .buffer)
+print-none (x ∷ text) size w e = absurd (omega (arith, w .place))
+
+pub print-some : (text : List ℕ) {out out′ : List ℕ} {r : ℕ} (size : ℕ) → Written out 0 text out′ r → r ≢ 0 → printed 0 out′ r ≡ printedBy text out size
+print-some [] size w h = absurd (h (omega (arith, w .place)))
+print-some (x ∷ text) {out} {out′} {r} size w h = let e : r ≡ length (x ∷ text) = omega (arith, w .place) in rw (ne-eqb (length (x ∷ text)) 0 (λ z. h (e ∙ z)), w .buffer, e)

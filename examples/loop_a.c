@@ -1,0 +1,55 @@
+/* Loop A through the C interface: a desk of sixteen loops, six stores that set loop 1 up, two samples, and a
+ * sample that is refused. It prints what the program `drill` prints of examples/loop-a.drill.
+ *   gcc -std=c99 -Iinclude examples/loop_a.c target/staticlib/libkexbardi.a */
+#include "kexbardi.h"
+
+#include <stdio.h>
+
+/* A desk is two pieces of memory that the program lends to each call. */
+static uint16_t words[KEXBARDI_WORDS];
+static int64_t records[KEXBARDI_NUMBERS];
+static unsigned calls, refusals;
+
+/* The answer 0 says that the call was carried out; any other number is a refusal, and nothing has changed. */
+static int refused(uint8_t answer) {
+    calls++;
+    if (answer == KEXBARDI_ACCEPTED) return 0;
+    refusals++;
+    printf("%u refused %u\n", calls, answer);
+    return 1;
+}
+
+static void store(uint16_t address, uint16_t value) {
+    if (refused(kexbardi_store(words, KEXBARDI_WORDS, address, value))) return;
+    printf("%u set %u %u\n", calls, address, value);
+}
+
+static void sample(uint8_t loop, uint16_t raw) {
+    uint16_t line[4];
+    if (refused(kexbardi_sample(words, KEXBARDI_WORDS, records, KEXBARDI_NUMBERS, loop, raw, line))) return;
+    printf("%u loop %u sp %u pv %u out %u word %04X\n", calls, loop, line[KEXBARDI_LINE_SETPOINT], line[KEXBARDI_LINE_PV],
+        line[KEXBARDI_LINE_OUTPUT], line[KEXBARDI_LINE_STATUS]);
+}
+
+int main(void) {
+    /* Header and archive have to be of one version: the layouts may differ. */
+    if (kexbardi_version() != KEXBARDI_VERSION) {
+        fprintf(stderr, "kexbardi.h and the archive are of different versions\n");
+        return 1;
+    }
+    if (kexbardi_reset(words, KEXBARDI_WORDS, records, KEXBARDI_NUMBERS) != KEXBARDI_ACCEPTED) return 1;
+
+    store(KEXBARDI_ADDRESS(1, KEXBARDI_OUTPUT), 2000);      /* where the output stands as the loop is taken over */
+    store(KEXBARDI_ADDRESS(1, KEXBARDI_OUTPUT_HIGH), 4095); /* the whole of 12 bits */
+    store(KEXBARDI_ADDRESS(1, KEXBARDI_PERIOD), 0x0100);    /* 1.00 s: the digits of a BCD word read like hex */
+    store(KEXBARDI_ADDRESS(1, KEXBARDI_GAIN), 0x0200);      /* 2.00 */
+    store(KEXBARDI_ADDRESS(1, KEXBARDI_RESET), 0x1000);     /* 10.00 s */
+    store(KEXBARDI_ADDRESS(1, KEXBARDI_MODE_1), 1 << 1);    /* Automatic is requested */
+
+    sample(1, 1000);                                        /* enters Automatic: the setpoint becomes the PV */
+    store(KEXBARDI_ADDRESS(1, KEXBARDI_SETPOINT), 1500);
+    sample(1, 1000);                                        /* 2,000 + 2.00 x 500, and 100 by reset */
+    sample(17, 0);                                          /* no such loop */
+    printf("%u records, %u refused\n", calls, refusals);
+    return 0;
+}

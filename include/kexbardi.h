@@ -1,0 +1,156 @@
+/* Kexbardi: sixteen PID loops that behave as those of the D4-454 controller do, as a part to link.
+ *
+ * Every function works on memory that the caller lends, allocates nothing and keeps nothing between
+ * calls, so any number of desks can run side by side, each in a thread of its own.
+ *
+ * A desk is two pieces of memory:
+ *   words    KEXBARDI_WORDS words of 16 bits: the loops' tables, 32 words for each loop, then free words
+ *   records  KEXBARDI_NUMBERS numbers of 64 bits: what each loop carries from sample to sample
+ * Between calls the caller may read and write the words, and save, load or copy both.
+ *
+ * Every function but kexbardi_version answers 0, or the number of the refusal (enum kexbardi_refusal).
+ * A refusal leaves all lent memory as it was.
+ *
+ * The caller sees to it that
+ *   - a pointer is not null, is aligned for its type, and points to as many elements as the length
+ *     after it says, or as the array's size in the declaration says;
+ *   - memory that a function writes does not overlap any other memory lent to the same call;
+ *   - no other thread uses that memory during the call.
+ * Nothing else is asked: words, records and files may hold anything.
+ *
+ * For x86-64 Linux, C99 or later and C++. docs/INTEGRATION.md has more. */
+#ifndef KEXBARDI_H
+#define KEXBARDI_H
+
+#include <stddef.h>
+#include <stdint.h>
+
+#ifdef __cplusplus
+extern "C" {
+#endif
+
+/* The version of the functions and of the layout below: major, minor, patch as MMmmpp. */
+#define KEXBARDI_VERSION 10000
+
+/* ---- the words */
+
+#define KEXBARDI_LOOPS 16
+#define KEXBARDI_WORDS 1024     /* length of the words */
+#define KEXBARDI_LOOP_WORDS 32  /* words of each loop; words 512 to 1,023 are free for other data */
+
+/* The address of a loop's word; loops count from 1, `offset` is one of those below. */
+#define KEXBARDI_ADDRESS(loop, offset) (KEXBARDI_LOOP_WORDS * ((loop) - 1) + (offset))
+
+enum kexbardi_word {
+    KEXBARDI_MODE_1 = 0,
+    KEXBARDI_MODE_2 = 1,
+    KEXBARDI_SETPOINT = 2,
+    KEXBARDI_PV = 3,          /* written by the engine only */
+    KEXBARDI_BIAS = 4,        /* written by the engine only */
+    KEXBARDI_OUTPUT = 5,
+    KEXBARDI_STATUS = 6,      /* written by the engine only */
+    KEXBARDI_PERIOD = 7,      /* BCD, hundredths of a second */
+    KEXBARDI_GAIN = 8,        /* BCD, hundredths */
+    KEXBARDI_RESET = 9,       /* BCD, hundredths of a second, or of a minute with bit 4 of mode 2 */
+    KEXBARDI_RATE = 10,       /* BCD, hundredths of a second */
+    KEXBARDI_LOW_LOW = 11,
+    KEXBARDI_LOW = 12,
+    KEXBARDI_HIGH = 13,
+    KEXBARDI_HIGH_HIGH = 14,
+    KEXBARDI_YELLOW = 15,     /* deviation */
+    KEXBARDI_RED = 16,        /* deviation */
+    KEXBARDI_CHANGE = 17,     /* rate of change of the PV */
+    KEXBARDI_HYSTERESIS = 18,
+    KEXBARDI_DEADBAND = 19,   /* of the error */
+    KEXBARDI_OUTPUT_LOW = 24,
+    KEXBARDI_OUTPUT_HIGH = 25,
+    KEXBARDI_POINTER = 26     /* the address of the setpoint in Cascade */
+};
+
+/* ---- the records */
+
+#define KEXBARDI_FIELDS 8      /* numbers of each record */
+#define KEXBARDI_NUMBERS 128   /* length of the records: 16 of 8 numbers, loop 1 first */
+
+/* The numbers of a record, in order. A record at reset is eight zeros. */
+enum kexbardi_field {
+    KEXBARDI_FIELD_MODE = 0,      /* 0 Manual, 1 Automatic, 2 Cascade */
+    KEXBARDI_FIELD_BIAS = 1,      /* in 1/262,144 of a count: -2^52 to 2^52 */
+    KEXBARDI_FIELD_OUTPUT = 2,    /* in 1/262,144 of a count: 0 to 65,535 counts */
+    KEXBARDI_FIELD_LAST_PV = 3,   /* 0 to 65,535 */
+    KEXBARDI_FIELD_PRIOR_PV = 4,  /* the PV before the last: 0 to 65,535 */
+    KEXBARDI_FIELD_ERROR = 5,     /* the last error: -65,535 to 65,535 */
+    KEXBARDI_FIELD_VELOCITY = 6,  /* the last algorithm: 0 position, 1 velocity */
+    KEXBARDI_FIELD_SAMPLED = 7    /* whether a sample was ever accepted: 0 or 1 */
+};
+
+/* ---- the refusals, in the words of the table that numbers them */
+
+enum kexbardi_refusal {
+    KEXBARDI_ACCEPTED = 0,
+    KEXBARDI_CUT = 1,      /* one byte remains in place of a length, or fewer stand behind it than it says; ends the file */
+    KEXBARDI_KIND = 2,     /* length below 2, or kind neither 1 nor 2 */
+    KEXBARDI_LENGTH = 3,   /* length not the kind's */
+    KEXBARDI_LOOP = 4,     /* sample for a loop outside 1 to 16 */
+    KEXBARDI_MEMORY = 5,   /* direct call: memory not 1,024 words, or, for a sample, a field of that loop's carried record out of range */
+    KEXBARDI_STORE = 6,    /* store above 1,023, or to offset 3, 4, 6 or 29 of a loop */
+    KEXBARDI_DIGIT = 7,    /* sample: a digit above 9 in words 7 to 10 */
+    KEXBARDI_SETTING = 8,  /* sample: a setting that is not allowed (docs/INTEGRATION.md lists them) */
+    KEXBARDI_ABOVE = 9     /* sample: raw PV above full scale */
+};
+
+/* ---- the functions */
+
+/* KEXBARDI_VERSION as the archive was built with it. A program whose header is of another version must
+ * not use the archive: the layouts may differ. */
+uint32_t kexbardi_version(void);
+
+/* Words and records as at reset: all words 0, all numbers 0.
+ * Answers 5 where words_length is not 1,024 or records_length is not 128; else 0. */
+uint8_t kexbardi_reset(uint16_t *words, size_t words_length, int64_t *records, size_t records_length);
+
+/* Stores a value at an address of the words.
+ * Answers 5 where words_length is not 1,024; 6 where the address is above 1,023 or one that only the
+ * engine writes (offset 3, 4, 6 or 29 of a loop); else 0, and that one word has the value. */
+uint8_t kexbardi_store(uint16_t *words, size_t words_length, uint16_t address, uint16_t value);
+
+/* What kexbardi_sample writes to its line: what the program `drill` prints of a sample. */
+enum kexbardi_line { KEXBARDI_LINE_SETPOINT = 0, KEXBARDI_LINE_PV = 1, KEXBARDI_LINE_OUTPUT = 2, KEXBARDI_LINE_STATUS = 3 };
+
+/* One sample of a loop, 1 to 16, with a raw PV.
+ * Answers the first of these that holds: 5 for words_length not 1,024 or records_length not 128; 4 for
+ * no such loop; 5 where the loop's record holds a mode, a PV or a flag that is no such value, or a number
+ * out of range; 7, 8 or 9 as the table says. Else 0: words 0, 2, 3, 4, 5 and 6 of the loop, its
+ * record and the line are written, and nothing else. Other loops' records are not looked at. */
+uint8_t kexbardi_sample(uint16_t *words, size_t words_length, int64_t *records, size_t records_length, uint8_t loop, uint16_t raw,
+    uint16_t line[4]);
+
+/* The fields of a loop's record copied out, if they are a record: the way to test a desk that was loaded.
+ * Answers 5 where records_length is not 128; 4 for no such loop; 5 where the record holds a mode, a PV or
+ * a flag that is no such value, or a number out of range; else 0, and `fields` has its numbers. */
+uint8_t kexbardi_record(const int64_t *records, size_t records_length, uint8_t loop, int64_t fields[8]);
+
+/* A whole drill file, of any length, carried out on the words and records.
+ * Answers 5 where words_length is not 1,024 or records_length is not 128, and nothing is read. Else 0: each
+ * record of the file is carried out or refused, `count` says how many there were and `refused` how many of
+ * them were refused, and the answer to each (0 or its number) goes into `answers` in order, as many as fit.
+ * A sample of a loop whose record is none, or out of range, is refused with 5 as in kexbardi_sample; that
+ * record's numbers stay. */
+uint8_t kexbardi_run(const uint8_t *file, size_t file_length, uint16_t *words, size_t words_length, int64_t *records,
+    size_t records_length, uint8_t *answers, size_t answers_length, size_t *count, size_t *refused);
+
+/* Room that is enough for what kexbardi_print writes of a file of a length. */
+#define KEXBARDI_PRINT_ROOM(file_length) (10 * (size_t)(file_length) + 100)
+
+/* What the program `drill` prints of a file, carried out from reset on words of its own: a line for each
+ * record and a last line, or `too long` where the file is above 65,536 bytes. It ends with a newline; no
+ * zero byte follows.
+ * Answers 5 where out_length is below KEXBARDI_PRINT_ROOM (9 for a file that is too long); else 0: the text
+ * stands at the start of `out`, and `length` is its length. Bytes behind it stay. */
+uint8_t kexbardi_print(const uint8_t *file, size_t file_length, uint8_t *out, size_t out_length, size_t *length);
+
+#ifdef __cplusplus
+}
+#endif
+
+#endif

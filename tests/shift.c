@@ -1,0 +1,149 @@
+/* A whole shift on the archive and on the plain engine: sixteen loops, 20 samples a second each, eight hours.
+ * Every loop is closed over a small process, and an instructor changes setpoints, gains and modes. It links
+ * the archive and bench/plain_engine.c:
+ *   gcc -O2 -std=c99 -Iinclude -Ibench tests/shift.c bench/plain_engine.c target/staticlib/libkexbardi.a -lm */
+#include "kexbardi.h"
+#include "plain_engine.h"
+
+#include <stdio.h>
+#include <stdlib.h>
+#include <string.h>
+
+#define SAMPLES (16L * 20 * 3600 * 8)
+#define PARTS 1024 /* a process's level is in 1/1,024 of a count */
+#define MASTER 600 /* the word that the loops in Cascade follow */
+
+struct desk {
+    uint16_t words[KEXBARDI_WORDS];
+    int64_t records[KEXBARDI_NUMBERS];
+    uint16_t line[4];
+};
+
+/* a first-order lag from the output to the raw PV */
+struct process {
+    int64_t level;
+    int lag, reverse, full;
+};
+
+static struct desk ours, plain;
+static struct process processes[KEXBARDI_LOOPS];
+static uint64_t seed = 88172645463325252ull;
+
+/* 0 to below - 1 */
+static unsigned any(unsigned below) {
+    seed ^= seed << 13, seed ^= seed >> 7, seed ^= seed << 17;
+    return (unsigned)(seed >> 20) % below;
+}
+
+static unsigned bcd(unsigned n) { return n / 1000 % 10 << 12 | n / 100 % 10 << 8 | n / 10 % 10 << 4 | n % 10; }
+
+static void fail(long at, const char *what) {
+    printf("sample %ld: %s\n", at, what);
+    exit(1);
+}
+
+static void store(unsigned address, unsigned value) {
+    uint8_t a = kexbardi_store(ours.words, KEXBARDI_WORDS, (uint16_t)address, (uint16_t)value);
+    if (a != 0 || a != plain_store(plain.words, KEXBARDI_WORDS, (uint16_t)address, (uint16_t)value)) fail(0, "a store is refused");
+}
+
+/* mode 1: a request, alarms watched, and what this loop is for its whole life */
+static unsigned mode_1(unsigned loop, unsigned request) {
+    unsigned always = 0x7000;
+    if (processes[loop - 1].reverse) always |= 1 << 4;
+    if (loop % 4 == 0) always |= 1 << 5;
+    else if (loop % 4 == 1) always |= 1 << 3;
+    if (loop % 5 == 0) always |= 1 << 8;
+    if (loop % 6 == 0) always |= 1 << 10;
+    if (loop == 7) always |= 1 << 7;
+    if (loop == 11) always |= 1 << 6;
+    return always | 1u << request;
+}
+
+/* A setpoint between a quarter and three quarters of full scale. */
+static unsigned setpoint(unsigned full) { return full / 4 + any(full / 2); }
+
+static void settle(unsigned loop) {
+    static const unsigned mode_2s[] = {0, 2, 512}, full_scales[] = {4095, 32767, 65535};
+    unsigned base = KEXBARDI_ADDRESS(loop, 0), full = full_scales[loop % 3];
+    struct process *process = &processes[loop - 1];
+    process->level = 0;
+    process->lag = 40 + 10 * (int)loop;
+    process->reverse = loop % 7 == 0;
+    process->full = (int)full;
+    store(base + KEXBARDI_MODE_2, mode_2s[loop % 3]);
+    store(base + KEXBARDI_SETPOINT, setpoint(full));
+    store(base + KEXBARDI_OUTPUT, full / 3);
+    store(base + KEXBARDI_PERIOD, bcd(5));
+    store(base + KEXBARDI_GAIN, bcd(50 + 10 * loop));
+    store(base + KEXBARDI_RESET, bcd(loop == 13 ? 9999 : 200 + 50 * loop));
+    store(base + KEXBARDI_RATE, bcd(loop % 3 == 0 ? 25 : 0));
+    for (unsigned n = 0; n < 4; n++) store(base + KEXBARDI_LOW_LOW + n, full / 5 * (n + 1));
+    store(base + KEXBARDI_YELLOW, full / 20);
+    store(base + KEXBARDI_RED, full / 10);
+    store(base + KEXBARDI_CHANGE, full / 200);
+    store(base + KEXBARDI_HYSTERESIS, 10);
+    store(base + KEXBARDI_DEADBAND, full / 500);
+    store(base + KEXBARDI_OUTPUT_LOW, loop % 2 * full / 20);
+    store(base + KEXBARDI_OUTPUT_HIGH, full - loop % 2 * full / 20);
+    store(base + KEXBARDI_POINTER, MASTER);
+    store(base + KEXBARDI_MODE_1, mode_1(loop, 1));
+}
+
+/* The raw PV after a twentieth of a second: the lag, and noise of a few counts. */
+static uint16_t measure(unsigned loop) {
+    struct process *process = &processes[loop - 1];
+    int64_t out = ours.words[KEXBARDI_ADDRESS(loop, KEXBARDI_OUTPUT)], target = process->reverse ? process->full - out : out;
+    process->level += (target * PARTS - process->level) / process->lag;
+    int64_t raw = process->level / PARTS + (int64_t)any(9) - 4;
+    return (uint16_t)(raw < 0 ? 0 : raw > process->full ? process->full : raw);
+}
+
+/* Once in about five minutes of a loop: a setpoint, a gain, a mode, an output by hand. */
+static void instruct(unsigned loop) {
+    unsigned base = KEXBARDI_ADDRESS(loop, 0), full = (unsigned)processes[loop - 1].full, word = ours.words[base + KEXBARDI_MODE_1];
+    switch (any(8)) {
+    case 0: case 1: store(base + KEXBARDI_SETPOINT, setpoint(full)); break;
+    case 2: store(base + KEXBARDI_GAIN, bcd(20 + any(200))); break;
+    case 3: store(base + KEXBARDI_MODE_1, word | 1), store(base + KEXBARDI_OUTPUT, any(full + 1)); break;
+    case 4: case 5: store(base + KEXBARDI_MODE_1, word | 2); break;
+    case 6: store(base + KEXBARDI_MODE_1, word | 4); break;
+    default: store(MASTER, setpoint(4095)); break;
+    }
+}
+
+static void compare(long at) {
+    if (memcmp(ours.words, plain.words, sizeof ours.words) != 0) fail(at, "the words differ");
+    if (memcmp(ours.records, plain.records, sizeof ours.records) != 0) fail(at, "the records differ");
+}
+
+static void sample(long at, unsigned loop) {
+    uint16_t raw = measure(loop);
+    uint8_t a = kexbardi_sample(ours.words, KEXBARDI_WORDS, ours.records, KEXBARDI_NUMBERS, (uint8_t)loop, raw, ours.line);
+    uint8_t b = plain_sample(plain.words, KEXBARDI_WORDS, plain.records, KEXBARDI_NUMBERS, (uint8_t)loop, raw, plain.line);
+    if (a != b) fail(at, "the answers differ");
+    if (a != 0) fail(at, "both refuse");
+    if (memcmp(ours.line, plain.line, sizeof ours.line) != 0) fail(at, "the lines differ");
+}
+
+int main(void) {
+    long near = 0;
+    memset(&ours, 0xa5, sizeof ours);
+    memset(&plain, 0x5a, sizeof plain);
+    if (kexbardi_reset(ours.words, KEXBARDI_WORDS, ours.records, KEXBARDI_NUMBERS) != 0) fail(0, "the reset is refused");
+    plain_reset(plain.words, KEXBARDI_WORDS, plain.records, KEXBARDI_NUMBERS);
+    for (unsigned loop = 1; loop <= KEXBARDI_LOOPS; loop++) settle(loop);
+    store(MASTER, 2000);
+    for (long at = 0; at < SAMPLES; at++) {
+        unsigned loop = (unsigned)(at % KEXBARDI_LOOPS) + 1;
+        if (any(6000) == 0) instruct(loop);
+        sample(at + 1, loop);
+        near += abs(ours.line[KEXBARDI_LINE_SETPOINT] - ours.line[KEXBARDI_LINE_PV]) <= processes[loop - 1].full / 100;
+        if (at % 1000 == 999) compare(at + 1);
+    }
+    compare(SAMPLES);
+    printf("%ld of them within 1 %% of the setpoint\n", near);
+    if (near < SAMPLES / 2) fail(SAMPLES, "the loops do not control");
+    printf("%ld samples: equal\n", SAMPLES);
+    return 0;
+}
