@@ -1,7 +1,7 @@
-/* The engine in plain C: one sample, stores, a drill file carried out and its lines. It keeps no state of its own. */
+/* The engine in plain C, by the steps of document 01 and apart from the Rattle sources: one sample, stores, a drill file
+ * carried out and its lines. It keeps no state of its own. Nothing is proved of it. */
 #include "plain_engine.h"
 
-#include <math.h>
 #include <string.h>
 
 #define WORDS 1024
@@ -10,51 +10,45 @@
 #define NUMBERS 128
 #define UNIT 262144
 #define LONGEST 65536
-#define MOST_BIAS ((uint64_t)1 << 52)
 
 enum mode { MANUAL, AUTOMATIC, CASCADE };
-
-/* bits of mode 1 */
-enum {
-    BUMPLESS_II = 1 << 3,
-    REVERSE = 1 << 4,
-    VELOCITY = 1 << 5,
-    ROOT = 1 << 6,
-    SQUARED = 1 << 7,
-    DEADBAND = 1 << 8,
-    FREEZE = 1 << 10,
-    WATCH_PV = 1 << 12,
-    WATCH_DEVIATION = 1 << 13,
-    WATCH_RATE = 1 << 14,
-    NO_SUCH_BIT = 1 << 9 | 1 << 11
-};
 
 /* a record's eight numbers */
 struct carried {
     int64_t mode, bias, output, last, prior, error, velocity, sampled;
 };
 
+struct terms {
+    int64_t p, i, d;
+};
+
 static int bit(unsigned word, int n) { return word >> n & 1; }
 
 static int64_t clamp(int64_t x, int64_t low, int64_t high) { return x < low ? low : x > high ? high : x; }
 
-/* to the nearest, halves away from zero; `by` is even */
-static int64_t nearest(int64_t x, int64_t by) { return (x < 0 ? x - by / 2 : x + by / 2) / by; }
+static int64_t distance(int64_t a, int64_t b) { return a < b ? b - a : a - b; }
+
+/* to the nearest, halves away from zero */
+static int64_t nearest(int64_t x, int64_t by) { return x < 0 ? -((-2 * x + by) / (2 * by)) : (2 * x + by) / (2 * by); }
 
 /* units in the nearest count, halves up; units are never below 0 here */
-static uint16_t counts(int64_t units) { return (uint16_t)(((uint64_t)units + UNIT / 2) / UNIT); }
+static uint16_t counts(int64_t units) { return (uint16_t)((units + UNIT / 2) / UNIT); }
 
-/* All four words at once: a digit above 9 has its 8 and its 4 or 2 set. */
-static int digit_above_9(const uint16_t *w) {
-    uint64_t four = w[0] | (uint64_t)w[1] << 16 | (uint64_t)w[2] << 32 | (uint64_t)w[3] << 48;
-    return (four & (four << 1 | four << 2) & 0x8888888888888888u) != 0;
+/* four decimal digits, or -1 where one is above 9 */
+static int decimal(unsigned word) {
+    unsigned a = word >> 12, b = word >> 8 & 15, c = word >> 4 & 15, d = word & 15;
+    if (a > 9 || b > 9 || c > 9 || d > 9) return -1;
+    return (int)(1000 * a + 100 * b + 10 * c + d);
 }
 
-/* Each step takes a higher digit's 16 for a 10. */
-static int decimal(unsigned word) { return (int)(word - 6 * (word >> 4) - 60 * (word >> 8) - 600 * (word >> 12)); }
-
-/* A double holds a root of 32 bits with enough places to cut it rightly. */
-static uint32_t root(uint32_t v) { return (uint32_t)sqrt((double)v); }
+static uint32_t root(uint32_t v) {
+    uint32_t r = 0;
+    for (uint32_t step = 32768; step > 0; step /= 2) {
+        uint32_t t = r + step;
+        if (t * t <= v) r = t;
+    }
+    return r;
+}
 
 static unsigned full_scale(unsigned mode2) { return bit(mode2, 9) ? 65535 : bit(mode2, 1) ? 32767 : 4095; }
 
@@ -62,107 +56,107 @@ static enum mode mode_of(unsigned mode1, enum mode former) {
     return bit(mode1, 0) ? MANUAL : bit(mode1, 1) ? AUTOMATIC : bit(mode1, 2) ? CASCADE : former;
 }
 
-/* Below 0 is far above every range once unsigned. */
-static int is_record(const struct carried *c) {
-    return (uint64_t)c->mode <= CASCADE && (uint64_t)c->bias + MOST_BIAS <= 2 * MOST_BIAS
-        && (uint64_t)c->output <= (uint64_t)65535 * UNIT && ((uint64_t)c->last | (uint64_t)c->prior) <= 65535
-        && (uint64_t)c->error + 65535 <= 2 * 65535 && ((uint64_t)c->velocity | (uint64_t)c->sampled) <= 1;
+static int out_of_range(const struct carried *c) {
+    const int64_t most = (int64_t)1 << 52;
+    return c->mode < MANUAL || c->mode > CASCADE || c->velocity < 0 || c->velocity > 1 || c->sampled < 0 || c->sampled > 1
+        || c->bias < -most || c->bias > most || c->output < 0 || c->output > (int64_t)65535 * UNIT || c->last < 0 || c->last > 65535
+        || c->prior < 0 || c->prior > 65535 || c->error < -65535 || c->error > 65535;
 }
 
-/* row 8, but for the setpoint */
-static int setting_refused(const uint16_t *w, unsigned full) {
+/* row 8 */
+static int setting_refused(const uint16_t *words, const uint16_t *w, enum mode mode, unsigned full, int period, int reset) {
     unsigned m = w[0];
-    return w[7] < 5 || w[9] == 0 || w[24] > w[25] || w[25] > full || (m & NO_SUCH_BIT) || (w[1] & ~0x312u)
-        || (m & (VELOCITY | BUMPLESS_II)) == (VELOCITY | BUMPLESS_II)
-        || ((m & (WATCH_PV | WATCH_DEVIATION)) && (w[18] < 1 || w[18] > 200));
+    if (period < 5 || reset == 0 || w[24] > w[25] || w[25] > full) return 1;
+    if ((bit(m, 5) && bit(m, 3)) || bit(m, 9) || bit(m, 11) || (w[1] & ~0x312u)) return 1;
+    if ((bit(m, 12) || bit(m, 13)) && (w[18] < 1 || w[18] > 200)) return 1;
+    if (mode != CASCADE) return w[2] > full;
+    return w[26] > 1023 || words[w[26]] > full;
 }
 
-/* An alarm that is on lets go only past the hysteresis. */
-static unsigned above(int on, int x, int limit, int hysteresis) { return x > limit - (on ? hysteresis : 0); }
+/* step 7 */
+static struct terms terms_of(const uint16_t *w, const int *tuning, int64_t ep, int64_t ei, int64_t change) {
+    int64_t period = tuning[0], gain = tuning[1], reset = tuning[2], rate = tuning[3], c = gain ? gain : 100;
+    struct terms t;
+    t.p = nearest(gain * ep * UNIT, 100);
+    t.i = reset == 9999 ? 0 : nearest(c * period * ei * UNIT, 100 * (bit(w[1], 4) ? 60 * reset : reset));
+    t.d = nearest(c * rate * change * UNIT, 100 * period);
+    if (bit(w[0], 4)) t.p = -t.p, t.i = -t.i, t.d = -t.d;
+    return t;
+}
 
-static unsigned below(int on, int x, int limit, int hysteresis) { return x < limit + (on ? hysteresis : 0); }
+static int above(int on, int x, int limit, int hysteresis) { return x > limit || (on && x > limit - hysteresis); }
+
+static int below(int on, int x, int limit, int hysteresis) { return x < limit || (on && x < limit + hysteresis); }
 
 static unsigned status(const uint16_t *w, const struct carried *c, enum mode mode, int s, int p, int out) {
     unsigned m = w[0], old = w[6], word = 1u << mode;
-    int h = w[18], apart = s < p ? p - s : s - p;
-    if (m & WATCH_PV) {
+    int h = w[18], apart = (int)distance(s, p);
+    if (bit(m, 12)) {
         word |= below(bit(old, 3), p, w[11], h) << 3 | below(bit(old, 4), p, w[12], h) << 4;
         word |= above(bit(old, 5), p, w[13], h) << 5 | above(bit(old, 6), p, w[14], h) << 6;
         if (!(w[11] < w[12] && w[12] < w[13] && w[13] < w[14])) word |= 1 << 10;
     }
-    if (m & WATCH_DEVIATION) {
+    if (bit(m, 13)) {
         if (mode != MANUAL) word |= above(bit(old, 7), apart, w[15], h) << 7 | above(bit(old, 8), apart, w[16], h) << 8;
         if (!(w[15] < w[16] && h < w[15])) word |= 1 << 10;
     }
-    if ((m & WATCH_RATE) && c->sampled && (p < c->last ? c->last - p : p - c->last) > w[17]) word |= 1 << 9;
+    if (bit(m, 14) && c->sampled && distance(p, c->last) > w[17]) word |= 1 << 9;
     if (mode != MANUAL && (out == w[24] || out == w[25]) && p != s) word |= 1 << 11;
     return word;
-}
-
-/* step 5 */
-static int error_of(const uint16_t *w, int s, int p, int full) {
-    int e = s - p, apart = e < 0 ? -e : e;
-    if ((w[0] & DEADBAND) && apart < w[19]) return 0;
-    return w[0] & SQUARED ? (int)((int64_t)e * apart / full) : e;
-}
-
-/* Steps 6 to 9, outside Manual: bias and output as they stand after the entry are moved on. `fresh`: the first
- * accepted sample or an entry, where no PV and no error before this one counts. */
-static void control(const uint16_t *w, const struct carried *c, int p, int e, int fresh, int64_t *bias, int64_t *output) {
-    int64_t period = decimal(w[7]), gain = decimal(w[8]), reset = decimal(w[9]), rate = decimal(w[10]), g = gain ? gain : 100;
-    int velocity = (w[0] & VELOCITY) != 0;
-    int64_t last = fresh ? p : c->last, change = p - last, rise = e;
-    if (velocity) {
-        rise = fresh ? 0 : e - c->error;
-        change += (fresh ? p : c->prior) - last;
-    }
-    int64_t moved = nearest(gain * rise * UNIT, 100);
-    if (rate != 0) moved -= nearest(g * rate * change * UNIT, 100 * period);
-    int64_t more = reset == 9999 ? 0 : nearest(g * period * e * UNIT, (bit(w[1], 4) ? 6000 : 100) * reset);
-    if (w[0] & REVERSE) moved = -moved, more = -more;
-
-    int64_t m = (velocity ? *output : *bias) + moved + more;
-    *output = clamp(m, (int64_t)w[24] * UNIT, (int64_t)w[25] * UNIT);
-    if (velocity) return;
-    if (m == *output) *bias += more;
-    else if (!(w[0] & FREEZE)) *bias = *output - moved;
 }
 
 static uint8_t sample(uint16_t *words, struct carried *records, unsigned loop, unsigned raw, uint16_t line[4]) {
     if (loop < 1 || loop > LOOPS) return 4;
     struct carried *c = &records[loop - 1];
-    if (!is_record(c)) return 5;
+    if (out_of_range(c)) return 5;
     uint16_t *w = words + LOOP_WORDS * (loop - 1);
-    if (digit_above_9(w + 7)) return 7;
+    int tuning[4];
+    for (int n = 0; n < 4; n++)
+        if ((tuning[n] = decimal(w[7 + n])) < 0) return 7;
     unsigned full = full_scale(w[1]);
     enum mode mode = mode_of(w[0], (enum mode)c->mode);
-    const uint16_t *setpoint = w + 2;
-    if (mode == CASCADE) {
-        if (w[26] >= WORDS) return 8;
-        setpoint = words + w[26];
-    }
-    if (*setpoint > full || setting_refused(w, full)) return 8;
+    if (setting_refused(words, w, mode, full, tuning[0], tuning[2])) return 8;
     if (raw > full) return 9;
 
-    int p = (int)(w[0] & ROOT ? root(raw * full) : raw), s = *setpoint, velocity = (w[0] & VELOCITY) != 0;
-    int64_t bias = c->bias, output = c->output;
-    uint16_t out = (uint16_t)clamp(w[5], w[24], w[25]), bias_word = w[4];
+    int p = (int)(bit(w[0], 6) ? root(raw * full) : raw);
+    int s = mode == CASCADE ? words[w[26]] : w[2];
+    int velocity = bit(w[0], 5);
     int entry = mode != MANUAL && (c->mode == MANUAL || c->velocity != velocity);
+    int64_t low = (int64_t)w[24] * UNIT, high = (int64_t)w[25] * UNIT;
+    uint16_t out = (uint16_t)clamp(w[5], w[24], w[25]), bias_word = w[4];
+    int64_t bias = c->bias, output = c->output;
     if (entry) {
         bias = output = (int64_t)out * UNIT;
-        if (mode == AUTOMATIC && !(w[0] & BUMPLESS_II)) s = p;
+        if (mode == AUTOMATIC && !bit(w[0], 3)) s = p;
     }
-    int e = error_of(w, s, p, (int)full);
-    if (mode != MANUAL) {
-        control(w, c, p, e, entry || !c->sampled, &bias, &output);
+    int64_t e = s - p;
+    if (bit(w[0], 7)) e = e * distance(s, p) / (int64_t)full;
+    if (bit(w[0], 8) && distance(s, p) < w[19]) e = 0;
+    int fresh = entry || !c->sampled;
+    int64_t last = fresh ? p : c->last, prior = fresh ? p : c->prior, last_error = fresh ? e : c->error;
+
+    if (mode != MANUAL && velocity) {
+        struct terms t = terms_of(w, tuning, e - last_error, e, p - 2 * last + prior);
+        output = clamp(output + t.p + t.i - t.d, low, high);
         out = counts(output);
-        if (!velocity) bias_word = counts(clamp(bias, 0, (int64_t)full * UNIT));
+    } else if (mode != MANUAL) {
+        struct terms t = terms_of(w, tuning, e, e, p - last);
+        int64_t m = t.p - t.d + bias + t.i;
+        output = clamp(m, low, high);
+        if (m == output) bias += t.i;
+        else if (!bit(w[0], 10)) bias = output - (t.p - t.d);
+        out = counts(output);
+        bias_word = counts(clamp(bias, 0, (int64_t)full * UNIT));
     }
     unsigned word = status(w, c, mode, s, p, out);
-    w[0] &= (uint16_t)~7u;
+    w[0] &= ~7u;
+    w[2] = (uint16_t)s;
+    w[3] = (uint16_t)p;
     w[4] = bias_word;
-    line[0] = w[2] = (uint16_t)s, line[1] = w[3] = (uint16_t)p, line[2] = w[5] = out, line[3] = w[6] = (uint16_t)word;
+    w[5] = out;
+    w[6] = (uint16_t)word;
     *c = (struct carried){mode, bias, output, p, c->sampled ? c->last : p, e, velocity, 1};
+    line[0] = w[2], line[1] = w[3], line[2] = w[5], line[3] = w[6];
     return 0;
 }
 
@@ -239,7 +233,7 @@ uint8_t plain_record(const int64_t *records, size_t records_length, uint8_t loop
     if (records_length != NUMBERS) return 5;
     if (loop < 1 || loop > LOOPS) return 4;
     const struct carried *c = (const struct carried *)records + (loop - 1);
-    if (!is_record(c)) return 5;
+    if (out_of_range(c)) return 5;
     memcpy(fields, c, sizeof *c);
     return 0;
 }

@@ -1,6 +1,6 @@
 /* Loop A through the C interface: a desk of sixteen loops, six stores that set loop 1 up, two samples, and a
  * sample that is refused. It prints what the program `drill` prints of examples/loop-a.drill.
- *   gcc -std=c99 -Iinclude examples/loop_a.c target/staticlib/libkexbardi.a */
+ * In the folder that package/make makes:  gcc -std=c99 -Iinclude examples/loop_a.c lib/libkexbardi.a */
 #include "kexbardi.h"
 
 #include <stdio.h>

@@ -12,8 +12,9 @@
  * A refusal leaves all lent memory as it was.
  *
  * The caller sees to it that
- *   - a pointer is not null, is aligned for its type, and points to as many elements as the length
- *     after it says, or as the array's size in the declaration says;
+ *   - a pointer is not null (where the length is 0 too: pass the address of anything), is aligned for its
+ *     type, and points to as many elements as the length after it says, or as the array's size in the
+ *     declaration says;
  *   - memory that a function writes does not overlap any other memory lent to the same call;
  *   - no other thread uses that memory during the call.
  * Nothing else is asked: words, records and files may hold anything.

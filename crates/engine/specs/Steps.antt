@@ -88,6 +88,10 @@ positionInputs past p e = record { p = e; i = e; d = pos p -ℤ pos (past .last)
 unfoldable pub velocityInputs : Past → ℕ → ℤ → Inputs
 velocityInputs past p e = record { p = e -ℤ past .error; i = e; d = (pos p -ℤ pos (2 * past .last)) +ℤ pos (past .prior) }
 
+-- by the form
+abbrev pub inputsOf : Bool → Past → ℕ → ℤ → Inputs
+inputsOf velocity past p e = cond velocity (velocityInputs past p e) (positionInputs past p e)
+
 -- the terms with the loop's settings
 unfoldable pub termsIn : Settings → Inputs → Terms
 termsIn s x = termsOf (s .tuning) (s .mode2 .minutes) (s .mode1 .reverse) x

@@ -7,7 +7,7 @@ use table::Settings;
 use table::is_cascade;
 ghost use mathlib.Core.Path.{_≡_};
 ghost use Rattle.engine.specs.Records.{badRecord};
-ghost use Rattle.engine.specs.Refusals.{badSetting, firstOf, casesOn, readingCases};
+ghost use Rattle.engine.specs.Refusals.{badSetting, firstOf, readingCases};
 
 // A field of the carried record is out of range. The PVs cannot be: they are words.
 pub fn bad_record(c: Carried) -> bool
@@ -44,34 +44,23 @@ fn bad_setting(s: Settings, cascade: bool, remote: u16) -> bool
 }
 
 // The first refusal whose condition holds, in the table's order.
-fn first_refusal(range: bool, digit: bool, setting: bool, above: bool) -> Answer
-    ensures { λ r. ⌜ r ≡ firstOf (casesOn range digit setting above) ⌝ }
-{
-    if range {
-        Answer::Refused(Refusal::Record)
-    } else if digit {
-        Answer::Refused(Refusal::Digit)
-    } else if setting {
-        Answer::Refused(Refusal::Setting)
-    } else if above {
-        Answer::Refused(Refusal::Above)
-    } else {
-        Answer::Accepted
-    }
-}
-
 pub(crate) fn judge(reading: Reading, carried: Carried, raw: u16) -> Answer
     ensures { λ r. ⌜ r ≡ firstOf (readingCases reading carried raw) ⌝ }
 {
     let settings = reading.settings;
     let mode = reading.mode;
+    if bad_record(carried) {
+        return Answer::Refused(Refusal::Record);
+    }
+    if settings.digits {
+        return Answer::Refused(Refusal::Digit);
+    }
     let cascade = is_cascade(mode);
-    let bad = bad_record(carried);
-    let setting = bad_setting(settings, cascade, reading.remote);
-    first_refusal(
-        bad,
-        settings.digits,
-        setting,
-        settings.mode2.format.scale < raw,
-    )
+    if bad_setting(settings, cascade, reading.remote) {
+        return Answer::Refused(Refusal::Setting);
+    }
+    if settings.mode2.format.scale < raw {
+        return Answer::Refused(Refusal::Above);
+    }
+    Answer::Accepted
 }

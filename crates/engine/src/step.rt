@@ -16,7 +16,7 @@ ghost use mathlib.Core.Bool.{cond};
 ghost use Prim.Native.Nat.{_≤_, _<_};
 ghost use lib.IntN.{natAbs};
 ghost use Rattle.control.specs.Terms.{Tuned, Bounded};
-ghost use Rattle.engine.specs.Steps.{pvOf, setpointOf, entering, targetOf, heldOf, startOf, errorIn, sensedOf, pastOf, positionInputs, velocityInputs, termsIn, movedPosition, movedVelocity, movedOf, drivenOf, outputWord, biasWord, statusWord, writtenOf, nextOf, stepOf, Counted, Movable, Drivable, Usable};
+ghost use Rattle.engine.specs.Steps.{pvOf, setpointOf, entering, targetOf, heldOf, startOf, errorIn, sensedOf, pastOf, positionInputs, velocityInputs, inputsOf, termsIn, movedOf, drivenOf, outputWord, biasWord, statusWord, writtenOf, nextOf, stepOf, Counted, Movable, Drivable, Usable};
 
 // Steps 1 to 5: the PV, whether the sample is an entry, the setpoint and the error.
 pub struct Sensed {
@@ -158,20 +158,6 @@ fn past_for(fresh: bool, kept: Past, pv: u16, error: i64) -> Past
     }
 }
 
-// Steps 7 to 9: the bias and output after the sample. Manual runs no terms.
-fn moved(s: Settings, manual: bool, drive: Drive, past: Past, pv: u16, e: i64) -> Drive
-    requires { ⌜ Movable s drive past pv e ⌝ }
-    ensures { λ r. ⌜ r ≡ movedOf s manual drive past pv e ⌝ }
-{
-    if manual {
-        drive
-    } else if s.mode1.velocity {
-        moved_velocity(s, drive, past, pv, e)
-    } else {
-        moved_position(s, drive, past, pv, e)
-    }
-}
-
 // The terms of a sample with the loop's settings.
 fn terms_in(s: Settings, inputs: Inputs) -> Terms
     requires { ⌜ Tuned (s .tuning) × Bounded inputs ⌝ }
@@ -207,26 +193,34 @@ fn velocity_inputs(past: Past, pv: u16, e: i64) -> Inputs
     }
 }
 
-// Step 8.
-fn moved_position(s: Settings, drive: Drive, past: Past, pv: u16, e: i64) -> Drive
-    requires { ⌜ Movable s drive past pv e ⌝ }
-    ensures { λ r. ⌜ r ≡ movedPosition s drive past pv e ⌝ }
+// What they act on in the loop's form.
+fn inputs_for(velocity: bool, past: Past, pv: u16, e: i64) -> Inputs
+    requires { ⌜ (natAbs (past .error) ≤ 65535) × (natAbs e ≤ 65535) ⌝ }
+    ensures { λ r. ⌜ r ≡ inputsOf velocity past pv e ⌝ }
 {
-    let terms = terms_in(s, position_inputs(past, pv, e));
-    let low = numbers::units(s.limits.low);
-    let high = numbers::units(s.limits.high);
-    control::position(s.mode1.freeze, drive, terms, low, high)
+    if velocity {
+        velocity_inputs(past, pv, e)
+    } else {
+        position_inputs(past, pv, e)
+    }
 }
 
-// Step 9.
-fn moved_velocity(s: Settings, drive: Drive, past: Past, pv: u16, e: i64) -> Drive
+// Steps 7 to 9: the bias and output after the sample. Manual runs no terms.
+fn moved(s: Settings, manual: bool, drive: Drive, past: Past, pv: u16, e: i64) -> Drive
     requires { ⌜ Movable s drive past pv e ⌝ }
-    ensures { λ r. ⌜ r ≡ movedVelocity s drive past pv e ⌝ }
+    ensures { λ r. ⌜ r ≡ movedOf s manual drive past pv e ⌝ }
 {
-    let terms = terms_in(s, velocity_inputs(past, pv, e));
+    if manual {
+        return drive;
+    }
+    let terms = terms_in(s, inputs_for(s.mode1.velocity, past, pv, e));
     let low = numbers::units(s.limits.low);
     let high = numbers::units(s.limits.high);
-    control::velocity(drive, terms, low, high)
+    if s.mode1.velocity {
+        control::velocity(drive, terms, low, high)
+    } else {
+        control::position(s.mode1.freeze, drive, terms, low, high)
+    }
 }
 
 // Step 10: word 5.

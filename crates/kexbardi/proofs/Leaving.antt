@@ -1,15 +1,11 @@
 -- What each exported call leaves, from what its callees ensure, in plain values.
-use Prim.Native.Nat.{ℕ, _+_, _*_, _≤_}
-use native.Mathlib.Omega.{arith}
+use Prim.Native.Nat.{ℕ, _*_}
 use mathlib.Core.Path.{_≡_, refl, sym, ap, _∙_}
-use mathlib.Core.Logic.{_≢_}
-use mathlib.Core.List.{List, [], _∷_}
+use mathlib.Core.List.{List}
 use lib.IntN.{ℤ, pos}
 use lib.ListN.{length, replicate}
 use lib.Seq.{sets}
-use borrow.Author.Tests.{eq-eqb, ne-eqb}
-use Rattle.text.specs.Text.{Written}
-use Rattle.engine.specs.declared.record.Carried.{Carried}
+use borrow.Author.Tests.{eq-eqb}
 use Rattle.engine.specs.declared.refusal.Refusal.{Refusal}
 use Rattle.engine.specs.declared.refusal.Answer.the-variants.{Accepted, Refused}
 use Rattle.engine.specs.declared.sampling.Sampled.{Sampled}
@@ -17,10 +13,8 @@ use Rattle.engine.specs.Records.{resetRecord}
 use Rattle.engine.specs.Refusals.{numberOf, answerOf}
 use Rattle.engine.specs.Samples.{sampleResult, sampleWords}
 use Rattle.desk.specs.Calls.{resetWords, resetRecords, slotOf}
-use Rattle.session.specs.declared.running.Ended.{Ended}
-use Rattle.session.specs.Session.{whole, sessionOf, answersOf}
-use Rattle.kexbardi.specs.Layout.{numbersOf, allNumbers, recordAt, recordsIn, keptIn}
-use Rattle.kexbardi.specs.Interface.{desk, resetLeft, lineOf, left, sampleLeft, ranBy, runLeft, runAnswers, printed, printedBy}
+use Rattle.lent.specs.Layout.{numbersOf, allNumbers, recordAt}
+use Rattle.kexbardi.specs.Interface.{desk, resetLeft, lineOf, left, sampleLeft}
 
 -- the records at reset are 128 zeros
 pub reset-numbers : allNumbers resetRecords ≡ replicate 128 (pos 0)
@@ -48,22 +42,3 @@ module _ (ws : List ℕ) (ns : List ℤ) (words : length ws ≡ 1024) (numbers :
     accepted e put shown =
         let a : answerOf ws (recordAt ns (8 * slotOf k)) k raw ≡ Accepted = sym (ap (λ (d : Sampled). d .answer) by) ∙ e in
         rw (eq-eqb _ _ words, eq-eqb _ _ numbers, put, shown, after, by, a)
-
-  -- a file carried out, with how the session ended and its records
-  module _ (file : List ℕ) (ended : Ended) (cs : List Carried) {ws′ : List ℕ} (by : whole ended ws′ cs ≡ sessionOf file ws (recordsIn ns)) where
-    pub carried-out : {ns′ : List ℤ} → ns′ ≡ keptIn ns cs → (count refused : ℕ) → ranBy ended ws′ ns′ count refused ≡ runLeft file ws ns count refused
-    unfolding runLeft
-    carried-out kept count refused = rw (eq-eqb _ _ words, eq-eqb _ _ numbers, sym by, kept)
-
-  pub answered : (file : List ℕ) → answersOf file ws (recordsIn ns) ≡ runAnswers file ws ns
-  unfolding runAnswers
-  answered file = rw (eq-eqb _ _ words, eq-eqb _ _ numbers)
-
--- a text printed, and none
-pub print-none : (text : List ℕ) {out out′ : List ℕ} {r : ℕ} (size : ℕ) → Written out 0 text out′ r → r ≡ 0 → printed 5 out′ size ≡ printedBy text out size
-print-none [] size w e = ap (λ (o : List ℕ). printed 5 o size) (w .buffer)
-print-none (x ∷ text) size w e = absurd (omega (arith, w .place))
-
-pub print-some : (text : List ℕ) {out out′ : List ℕ} {r : ℕ} (size : ℕ) → Written out 0 text out′ r → r ≢ 0 → printed 0 out′ r ≡ printedBy text out size
-print-some [] size w h = absurd (h (omega (arith, w .place)))
-print-some (x ∷ text) {out} {out′} {r} size w h = let e : r ≡ length (x ∷ text) = omega (arith, w .place) in rw (ne-eqb (length (x ∷ text)) 0 (λ z. h (e ∙ z)), w .buffer, e)

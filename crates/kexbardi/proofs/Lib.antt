@@ -1,3 +1,2 @@
--- What the loops over the lent buffers keep, and what the calls leave, in plain values.
-pub mod Buffers
+-- What the calls leave, in plain values.
 pub mod Leaving

@@ -38,7 +38,7 @@ use Rattle.engine.specs.declared.refusal.Answer.the-variants.{Accepted}
 use Rattle.engine.specs.Records.{recordTests, badRecord}
 use Rattle.engine.specs.Refusals.{settingTests, badSetting, firstOf, readingCases}
 use Rattle.engine.specs.Refusals.Laws.{accepted-at}
-use Rattle.engine.specs.Steps.{pvOf, setpointOf, heldOf, startOf, targetOf, errorIn, sensedOf, pastOf, positionInputs, velocityInputs, termsIn, lowUnits, highUnits, movedPosition, movedVelocity, movedOf, Counted, Movable, Drivable, Usable}
+use Rattle.engine.specs.Steps.{pvOf, setpointOf, heldOf, startOf, targetOf, errorIn, sensedOf, pastOf, positionInputs, velocityInputs, inputsOf, termsIn, lowUnits, highUnits, movedPosition, movedVelocity, movedOf, Counted, Movable, Drivable, Usable}
 
 -- ---- what acceptance says
 
@@ -182,6 +182,10 @@ module _ {s : Settings} {drive : Drive} {past : Past} {p : ℕ} {e : ℤ} (m : M
         i = m .error;
         d = abs-in change (omega (arith, add first (pos (past .prior)), sub (pos p) (pos (2 * past .last)), m .pv, m .last, m .prior));
       }
+
+  pub inputs-bounded : (velocity : Bool) → Bounded (inputsOf velocity past p e)
+  inputs-bounded true = velocity-bounded
+  inputs-bounded false = position-bounded
 
   -- so no sum of the moves leaves 64 bits
   pub ready : (x : Inputs) → Bounded x → Ready drive (termsIn s x) (lowUnits s) (highUnits s)

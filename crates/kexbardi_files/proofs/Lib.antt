@@ -1,0 +1,2 @@
+-- What the calls leave, in plain values.
+pub mod Leaving

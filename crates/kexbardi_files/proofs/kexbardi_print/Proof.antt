@@ -1,0 +1,27 @@
+-- `kexbardi_files::kexbardi_print` meets its contract.
+use Rattle.kexbardi_files.proofs.Leaving.{print-none, print-some}
+use Rattle.kexbardi_files.specs.Files.{printLeft}
+use borrow.Author.Needs.{needs}
+use Rattle.kexbardi_files.proofs.kexbardi_print.Statement.{statement}
+use Rattle.kexbardi_files.proofs.kexbardi_print.Tie as tie
+
+drill-requires : tie.Need-drill-requires
+drill-requires c κs = search needs
+
+same-length : tie.Need-same-length
+same-length c = search needs
+
+returns : tie.Need-returns
+unfolding printLeft
+returns c = print-none _ _ (c .before .before .before .drill .ensures .1 .1) (c .if1 .taken)
+
+same-length-2 : tie.Need-same-length-2
+same-length-2 c = search needs
+
+returns-2 : tie.Need-returns-2
+unfolding printLeft
+returns-2 c = print-some _ _ (c .before .before .before .drill .ensures .1 .1) (c .if1 .left)
+
+pub kexbardi-print-spec : {M : Type 1} → statement M
+kexbardi-print-spec =
+    tie.close (tie.spec drill-requires same-length returns same-length-2 returns-2)

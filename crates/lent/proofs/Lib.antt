@@ -1,0 +1,2 @@
+-- What the loops over the lent buffers keep.
+pub mod Loops
