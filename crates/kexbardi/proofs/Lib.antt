@@ -1,2 +1,3 @@
--- What the calls leave, in plain values.
+-- What the calls leave, in plain values, and that they are the desk's.
 pub mod Leaving
+pub mod OnTheDesk

@@ -1,18 +1,22 @@
 -- The layout loses nothing: a record is read back from its numbers, and numbers that are a record are that record's.
-use Prim.Native.Nat.{ℕ, zero, suc, _≤_}
+use Prim.Native.Nat.{ℕ, zero, suc, _+_, _*_, _≤_, _<_}
 use native.Mathlib.Omega.{arith}
-use mathlib.Core.Path.{_≡_, refl, subst}
+use native.Mathlib.Nat.{add-zero, zero-add}
+use mathlib.Core.Path.{_≡_, refl, sym, subst, _∙_}
+use mathlib.Core.Logic.{_≢_}
 use mathlib.Core.Bool.{Bool, true, false}
 use mathlib.Core.List.{List, [], _∷_}
 use lib.Dec.{T, ltb}
 use lib.IntN.{ℤ, pos, negsuc}
 use lib.Signed.{ltZ}
+use lib.ListN.{length, getD, set, length-set}
+use lib.Seq.{sets, getD-set-same, getD-set-other}
 use borrow.Author.Tests.{le-ltb, ltb-false}
 use Rattle.table.specs.declared.mode.Mode.{Mode}
 use Rattle.table.specs.declared.mode.Mode.the-variants.{Manual, Automatic, Cascade}
 use Rattle.table.specs.Words.Laws.{none-at}
 use Rattle.engine.specs.declared.record.Carried.{Carried}
-use Rattle.lent.specs.Layout.{modeNumber, flag, numbersOf, fieldTests, noRecord, modeFrom, wordFrom, recordFrom, fieldsAt, recordAt}
+use Rattle.lent.specs.Layout.{modeNumber, flag, numbersOf, fieldTests, noRecord, modeFrom, wordFrom, recordFrom, fieldsAt, recordAt, recordsFrom, recordsIn}
 
 -- ---- a record is read back. Its PVs are words, as they are in every record in range
 
@@ -65,3 +69,71 @@ same-numbers mode bias output last prior error velocity sampled e =
     let no = none-at (fieldTests (fieldsAt (mode ∷ bias ∷ output ∷ last ∷ prior ∷ error ∷ velocity ∷ sampled ∷ []) 0)) e in
     rw e
     (simp (mode-back mode (no 0) (no 1), word-back last (no 2) (no 3), word-back prior (no 4) (no 5), flag-back velocity (no 6) (no 7), flag-back sampled (no 8) (no 9)))
+
+-- ---- one record put into the buffer
+
+-- a number that is not written over
+apart : (vs l : List ℤ) (i j : ℕ) (d : ℤ) → ((k : ℕ) → k < length vs → j ≢ i + k) → getD (sets l i vs) j d ≡ getD l j d
+apart [] l i j d h = refl
+apart (v ∷ vs) l i j d h =
+    apart vs (set l i v) (suc i) j d (λ k p e. h (suc k) (omega arith) (omega arith)) ∙ getD-set-other l i j v d (λ e. h 0 (omega arith) (omega arith))
+
+-- one that is
+inside : (vs l : List ℤ) (i k : ℕ) (d : ℤ) → k < length vs → i + length vs ≤ length l → getD (sets l i vs) (i + k) d ≡ getD vs k d
+inside [] l i k d p q = absurd (omega arith)
+inside (v ∷ vs) l i zero d p q =
+    rw (add-zero i) (apart vs (set l i v) (suc i) i d (λ k p e. omega arith) ∙ getD-set-same l i v d (omega arith))
+inside (v ∷ vs) l i (suc k) d p q =
+    let e : i + suc k ≡ suc i + k = omega arith in rw e (inside vs (set l i v) (suc i) k d (omega arith) (rw (length-set l i v) (omega arith)))
+
+-- the slot's own fields, and another's
+fields-put : (ns : List ℤ) (base : ℕ) (c : Carried) → base + 8 ≤ length ns → fieldsAt (sets ns base (numbersOf c)) base ≡ fieldsAt (numbersOf c) 0
+unfolding fieldsAt numbersOf
+fields-put ns base c h =
+    let at : (k : ℕ) → k < 8 → getD (sets ns base (numbersOf c)) (base + k) (pos 0) ≡ getD (numbersOf c) k (pos 0) = λ k p. inside (numbersOf c) ns base k (pos 0) p h in
+    simp (rw (add-zero base) at (at 0 (omega arith)), at 1 (omega arith), at 2 (omega arith), at 3 (omega arith), at 4 (omega arith), at 5 (omega arith), at 6 (omega arith), at 7 (omega arith))
+
+fields-kept : (ns : List ℤ) (s t : ℕ) (c : Carried) → t ≢ s → fieldsAt (sets ns (8 * s) (numbersOf c)) (8 * t) ≡ fieldsAt ns (8 * t)
+unfolding fieldsAt numbersOf
+fields-kept ns s t c h =
+    let at : (r : ℕ) → r < 8 → getD (sets ns (8 * s) (numbersOf c)) (8 * t + r) (pos 0) ≡ getD ns (8 * t + r) (pos 0) = λ r p. apart (numbersOf c) ns (8 * s) (8 * t + r) (pos 0) (λ k q e. h (omega arith)) in
+    simp (rw (add-zero (8 * t)) at (at 0 (omega arith)), at 1 (omega arith), at 2 (omega arith), at 3 (omega arith), at 4 (omega arith), at 5 (omega arith), at 6 (omega arith), at 7 (omega arith))
+
+-- ---- the sixteen records
+
+-- a record that is not put over
+kept-from : (n slot s : ℕ) (ns : List ℤ) (c : Carried) → ((t : ℕ) → slot ≤ t → t ≢ s)
+    → recordsFrom n slot (sets ns (8 * s) (numbersOf c)) ≡ recordsFrom n slot ns
+unfolding recordsFrom
+kept-from zero slot s ns c h = refl
+kept-from (suc n) slot s ns c h =
+    rw (fields-kept ns s slot c (h slot (omega arith)), kept-from n (slot + 1) s ns c (λ t p. h t (omega arith)))
+
+-- a record among those from a slot on
+put-from : (n slot k : ℕ) (ns : List ℤ) (c : Carried) → k < n → 8 * (slot + k) + 8 ≤ length ns → c .past .last ≤ 65535 → c .past .prior ≤ 65535
+    → recordsFrom n slot (sets ns (8 * (slot + k)) (numbersOf c)) ≡ set (recordsFrom n slot ns) k c
+unfolding recordsFrom
+put-from zero slot k ns c p h l m = absurd (omega arith)
+put-from (suc n) slot zero ns c p h l m =
+    rw (add-zero slot)
+    (rw (
+      fields-put ns (8 * slot) c (omega arith),
+      read-back c l m,
+      kept-from n (slot + 1) slot ns c (λ t q e. omega arith),
+    ))
+put-from (suc n) slot (suc k) ns c p h l m =
+    let e : slot + suc k ≡ (slot + 1) + k = omega arith in
+    rw (fields-kept ns (slot + suc k) slot c (λ z. omega arith)) (rw e (rw (put-from n (slot + 1) k ns c (omega arith) (rw (sym e) (omega arith)) l m)))
+
+found-from : (n slot k : ℕ) (ns : List ℤ) (d : Carried) → k < n → getD (recordsFrom n slot ns) k d ≡ recordAt ns (8 * (slot + k))
+unfolding recordsFrom
+found-from zero slot k ns d p = absurd (omega arith)
+found-from (suc n) slot zero ns d p = rw (add-zero slot)
+found-from (suc n) slot (suc k) ns d p = let e : slot + suc k ≡ (slot + 1) + k = omega arith in rw e (found-from n (slot + 1) k ns d (omega arith))
+
+pub put-record : (ns : List ℤ) (slot : ℕ) (c : Carried) → slot < 16 → length ns ≡ 128 → c .past .last ≤ 65535 → c .past .prior ≤ 65535
+    → recordsIn (sets ns (8 * slot) (numbersOf c)) ≡ set (recordsIn ns) slot c
+put-record ns slot c p h l m = rw (zero-add slot) at (put-from 16 0 slot ns c p (omega arith) l m)
+
+pub found-record : (ns : List ℤ) (slot : ℕ) (d : Carried) → slot < 16 → getD (recordsIn ns) slot d ≡ recordAt ns (8 * slot)
+found-record ns slot d p = rw (zero-add slot) at (found-from 16 0 slot ns d p)
