@@ -3,20 +3,28 @@ use table::AlarmLimits;
 use table::Mode1;
 use table::OutputLimits;
 ghost use mathlib.Core.Path.{_≡_};
-ghost use Rattle.alarms.specs.Status.{highAlarm, lowAlarm, apart, unordered, atLimit};
+ghost use mathlib.Core.Bool.{cond};
+ghost use Rattle.alarms.specs.Status.{Small, highAlarm, lowAlarm, apart, unordered, atLimit};
+
+// What the hold adds: the hysteresis of an alarm that was on.
+fn margin(was: bool, hysteresis: u16) -> u32
+    ensures { λ r. ⌜ Small r (cond was hysteresis 0) 65535 ⌝ }
+{
+    if was { hysteresis as u32 } else { 0 }
+}
 
 // On above the limit; once on, on while x > limit − hysteresis.
 pub(crate) fn high_alarm(was: bool, limit: u16, hysteresis: u16, x: u16) -> bool
     ensures { λ r. ⌜ r ≡ highAlarm was limit hysteresis x ⌝ }
 {
-    (limit < x) | (was & ((limit as u32) < x as u32 + hysteresis as u32))
+    (limit as u32) < x as u32 + margin(was, hysteresis)
 }
 
 // On below the limit; once on, on while x < limit + hysteresis.
 pub(crate) fn low_alarm(was: bool, limit: u16, hysteresis: u16, x: u16) -> bool
     ensures { λ r. ⌜ r ≡ lowAlarm was limit hysteresis x ⌝ }
 {
-    (x < limit) | (was & ((x as u32) < limit as u32 + hysteresis as u32))
+    (x as u32) < limit as u32 + margin(was, hysteresis)
 }
 
 // |a − b|.

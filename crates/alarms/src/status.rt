@@ -8,11 +8,11 @@ use table::AlarmLimits;
 use table::Mode;
 use table::Mode1;
 use table::OutputLimits;
-use table::is_automatic;
-use table::is_cascade;
 use table::is_manual;
 ghost use mathlib.Core.Path.{_≡_};
-ghost use Rattle.alarms.specs.Status.{Small, number, wordOf, bitsOf, levelsOf, statusOf};
+ghost use mathlib.Core.Bool.{cond};
+ghost use Rattle.alarms.specs.Status.{Small, apart, wordOf, bitsOf, statusOf};
+ghost use Rattle.alarms.specs.Sums.{flagOf, modeBit, levelBits, deviationBits};
 
 // What the status word tells of one sample.
 pub struct Seen {
@@ -23,7 +23,7 @@ pub struct Seen {
     pub output: u16, // word 5 as written
 }
 
-// Bits 3 to 6.
+// Bits 3 to 6, as the contracts name them; no code makes one.
 pub struct Levels {
     pub lowlow: bool,
     pub low: bool,
@@ -31,7 +31,7 @@ pub struct Levels {
     pub highhigh: bool,
 }
 
-// Bits 0 to 11.
+// Bits 0 to 11, likewise.
 pub struct Status {
     pub manual: bool,
     pub automatic: bool,
@@ -44,90 +44,53 @@ pub struct Status {
     pub saturated: bool,
 }
 
+// Bits 0 to 2.
+fn mode_bit(mode: Mode) -> u16
+    ensures { λ r. ⌜ Small r (modeBit mode) 4 ⌝ }
+{
+    match mode {
+        Mode::Manual => 1,
+        Mode::Automatic => 2,
+        Mode::Cascade => 4,
+    }
+}
+
+// A bit's value in the word.
+fn flag(on: bool, bit: u16) -> u16
+    ensures { λ r. ⌜ Small r (flagOf on bit) bit ⌝ }
+{
+    if on { bit } else { 0 }
+}
+
 // Bits 3 to 6, where the PV is monitored. `stored` is the status word before the sample.
-fn level_alarms(on: bool, limits: AlarmLimits, stored: u16, pv: u16) -> Levels
-    ensures { λ r. ⌜ r ≡ levelsOf on limits stored pv ⌝ }
+fn level_bits(on: bool, limits: AlarmLimits, stored: u16, pv: u16) -> u16
+    ensures { λ r. ⌜ Small r (cond on (levelBits limits stored pv) 0) 120 ⌝ }
 {
-    let lowlow = low_alarm(stored / 8 % 2 == 1, limits.lowlow, limits.hysteresis, pv);
-    let low = low_alarm(stored / 16 % 2 == 1, limits.low, limits.hysteresis, pv);
-    let high = high_alarm(stored / 32 % 2 == 1, limits.high, limits.hysteresis, pv);
-    let highhigh = high_alarm(stored / 64 % 2 == 1, limits.highhigh, limits.hysteresis, pv);
-    Levels {
-        lowlow: on & lowlow,
-        low: on & low,
-        high: on & high,
-        highhigh: on & highhigh,
+    if on {
+        let hysteresis = limits.hysteresis;
+        let lowlow = low_alarm(stored / 8 % 2 == 1, limits.lowlow, hysteresis, pv);
+        let low = low_alarm(stored / 16 % 2 == 1, limits.low, hysteresis, pv);
+        let high = high_alarm(stored / 32 % 2 == 1, limits.high, hysteresis, pv);
+        let highhigh = high_alarm(stored / 64 % 2 == 1, limits.highhigh, hysteresis, pv);
+        flag(lowlow, 8) + flag(low, 16) + flag(high, 32) + flag(highhigh, 64)
+    } else {
+        0
     }
 }
 
-fn status_of(
-    mode: Mode,
-    bits: Mode1,
-    limits: AlarmLimits,
-    output: OutputLimits,
-    stored: u16,
-    seen: Seen,
-) -> Status
-    ensures { λ r. ⌜ r ≡ statusOf mode bits limits output stored seen ⌝ }
+// Bits 7 and 8, where the deviation is monitored.
+fn deviation_bits(on: bool, limits: AlarmLimits, stored: u16, setpoint: u16, pv: u16) -> u16
+    ensures { λ r. ⌜ Small r (cond on (deviationBits limits stored (apart setpoint pv)) 0) 384 ⌝ }
 {
-    let manual = is_manual(mode);
-    let automatic = is_automatic(mode);
-    let cascade = is_cascade(mode);
-    let levels = level_alarms(bits.level, limits, stored, seen.pv);
-    let deviation = distance(seen.setpoint, seen.pv);
-    let yellow = high_alarm(
-        stored / 128 % 2 == 1,
-        limits.yellow,
-        limits.hysteresis,
-        deviation,
-    );
-    let red = high_alarm(
-        stored / 256 % 2 == 1,
-        limits.red,
-        limits.hysteresis,
-        deviation,
-    );
-    let change = distance(seen.pv, seen.last);
-    let fault = contradiction(bits, limits);
-    let limited = saturated(manual, output, seen.output, seen.setpoint, seen.pv);
-    Status {
-        manual,
-        automatic,
-        cascade,
-        levels,
-        yellow: bits.deviation & !manual & yellow,
-        red: bits.deviation & !manual & red,
-        change: bits.change & seen.sampled & (limits.change < change),
-        fault,
-        saturated: limited,
+    if on {
+        let hysteresis = limits.hysteresis;
+        let deviation = distance(setpoint, pv);
+        let yellow = high_alarm(stored / 128 % 2 == 1, limits.yellow, hysteresis, deviation);
+        let red = high_alarm(stored / 256 % 2 == 1, limits.red, hysteresis, deviation);
+        flag(yellow, 128) + flag(red, 256)
+    } else {
+        0
     }
-}
-
-// A bit's value.
-fn value(bit: bool) -> u16
-    ensures { λ r. ⌜ Small r (number bit) 1 ⌝ }
-{
-    if bit { 1 } else { 0 }
-}
-
-// The word of the bits, bit 0 the lowest.
-fn word_of(s: Status) -> u16
-    ensures { λ r. ⌜ r ≡ wordOf (bitsOf s) ⌝ }
-{
-    let b0 = value(s.manual);
-    let b1 = value(s.automatic);
-    let b2 = value(s.cascade);
-    let b3 = value(s.levels.lowlow);
-    let b4 = value(s.levels.low);
-    let b5 = value(s.levels.high);
-    let b6 = value(s.levels.highhigh);
-    let b7 = value(s.yellow);
-    let b8 = value(s.red);
-    let b9 = value(s.change);
-    let b10 = value(s.fault);
-    let b11 = value(s.saturated);
-    let upper = b6 + 2 * (b7 + 2 * (b8 + 2 * (b9 + 2 * (b10 + 2 * b11))));
-    b0 + 2 * (b1 + 2 * (b2 + 2 * (b3 + 2 * (b4 + 2 * (b5 + 2 * upper)))))
 }
 
 // Word 6 after a sample: `mode` is the resulting one, `stored` the word before the sample.
@@ -141,5 +104,20 @@ pub fn status_word(
 ) -> u16
     ensures { λ r. ⌜ r ≡ wordOf (bitsOf (statusOf mode bits limits output stored seen)) ⌝ }
 {
-    word_of(status_of(mode, bits, limits, output, stored, seen))
+    let manual = is_manual(mode);
+    let change = distance(seen.pv, seen.last);
+    let fault = contradiction(bits, limits);
+    let limited = saturated(manual, output, seen.output, seen.setpoint, seen.pv);
+    mode_bit(mode)
+        + level_bits(bits.level, limits, stored, seen.pv)
+        + deviation_bits(
+            bits.deviation & !manual,
+            limits,
+            stored,
+            seen.setpoint,
+            seen.pv,
+        )
+        + flag(bits.change & seen.sampled & (limits.change < change), 512)
+        + flag(fault, 1024)
+        + flag(limited, 2048)
 }

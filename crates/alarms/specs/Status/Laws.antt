@@ -1,15 +1,15 @@
 -- The laws of the status word.
 use Prim.Native.Nat.{ℕ, zero, suc, _+_, _*_, _-_, _/_, _%_, _^_, _<_}
 use native.Mathlib.Omega.{arith}
-use native.Mathlib.Nat.{zero-div, div-one, div-div-eq-div-mul, pow-succ'}
+use native.Mathlib.Nat.{add-zero, zero-div, div-one, div-div-eq-div-mul, pow-succ'}
 use mathlib.Core.Path.{_≡_, refl}
-use mathlib.Core.Bool.{Bool, true, false, cond}
+use mathlib.Core.Bool.{Bool, true, false, cond, _&&_, _||_}
 use mathlib.Core.List.{List, [], _∷_}
 use lib.ListN.{length, getD}
 use lib.Dec.{T, ltb, eqb, ltb→lt, lt→ltb}
 use lib.IntN.{ℤ, pos, natAbs, _+ℤ_, _-ℤ_}
 use lib.Signed.{ltZ, _<ℤ_}
-use borrow.Author.Tests.{ltb-true, ltb-false}
+use borrow.Author.Tests.{ltb-true, ltb-false, lt-ltb}
 use Rattle.numbers.specs.Whole.{linear, sub, abs}
 use Rattle.table.specs.Words.{bit}
 use Rattle.alarms.specs.Status.{apart, number, wordOf}
@@ -40,6 +40,20 @@ pub status-high : (l : List Bool) → wordOf l < 2 ^ length l
 status-high [] = omega arith
 status-high (true ∷ l) = rw pow-succ' (omega (arith, status-high l))
 status-high (false ∷ l) = rw pow-succ' (omega (arith, status-high l))
+
+-- ---- the hold, in one comparison: an alarm that was on has the hysteresis, any other nothing
+
+pub held : (was : Bool) (a b hysteresis : ℕ) → ltb a (b + cond was hysteresis 0) ≡ ltb a b || (was && ltb a (b + hysteresis))
+held true a b hysteresis = by-test (ltb a b) refl
+  where
+    by-test : (t : Bool) → ltb a b ≡ t → ltb a (b + hysteresis) ≡ t || ltb a (b + hysteresis)
+    by-test true e = lt-ltb a (b + hysteresis) (omega (arith, ltb-true a b e))
+    by-test false e = refl
+held false a b hysteresis = rw add-zero (by-test (ltb a b))
+  where
+    by-test : (t : Bool) → t ≡ t || false
+    by-test true = refl
+    by-test false = refl
 
 -- ---- the hold, in whole numbers
 
