@@ -6,6 +6,7 @@ use mathlib.Core.Logic.{_≢_}
 use mathlib.Core.List.{List, [], _∷_}
 use lib.IntN.{ℤ}
 use lib.ListN.{length}
+use lib.Seq.{sets}
 use borrow.Author.Tests.{eq-eqb, ne-eqb}
 use Rattle.text.specs.Text.{Written}
 use Rattle.engine.specs.declared.record.Carried.{Carried}
@@ -18,13 +19,11 @@ use Rattle.kexbardi_files.specs.Files.{ranBy, runLeft, runAnswers, print
 module _ (ws : List ℕ) (ns : List ℤ) (words : length ws ≡ 1024) (numbers : length ns ≡ 128) where
   -- a file carried out, with how the session ended and its records
   module _ (file : List ℕ) (ended : Ended) (cs : List Carried) {ws′ : List ℕ} (by : whole ended ws′ cs ≡ sessionOf file ws (recordsIn ns)) where
-    pub carried-out : {ns′ : List ℤ} → ns′ ≡ keptIn ns cs → (count refused : ℕ) → ranBy ended ws′ ns′ count refused ≡ runLeft file ws ns count refused
-    unfolding runLeft
-    carried-out kept count refused = rw (eq-eqb _ _ words, eq-eqb _ _ numbers, sym by, kept)
-
-  pub answered : (file : List ℕ) → answersOf file ws (recordsIn ns) ≡ runAnswers file ws ns
-  unfolding runAnswers
-  answered file = rw (eq-eqb _ _ words, eq-eqb _ _ numbers)
+    pub carried-out : {ns′ : List ℤ} {answers′ : List ℕ} (answers : List ℕ) (count refused : ℕ) → ns′ ≡ keptIn ns cs
+        → answers′ ≡ sets answers 0 (answersOf file ws (recordsIn ns))
+        → (ranBy ended ws′ ns′ count refused ≡ runLeft file ws ns count refused) × (answers′ ≡ sets answers 0 (runAnswers file ws ns))
+    unfolding runLeft runAnswers
+    carried-out answers count refused kept said = (rw (eq-eqb _ _ words, eq-eqb _ _ numbers, sym by, kept), rw (eq-eqb _ _ words, eq-eqb _ _ numbers) said)
 
 -- a text printed, and none
 pub print-none : (text : List ℕ) {out out′ : List ℕ} {r : ℕ} (size : ℕ) → Written out 0 text out′ r → r ≡ 0 → printed 5 out′ size ≡ printedBy text out size

@@ -1,10 +1,6 @@
 -- `kexbardi_files::kexbardi_run` meets its contract.
-use Rattle.kexbardi_files.proofs.Leaving.{carried-out, answered}
+use Rattle.kexbardi_files.proofs.Leaving.{carried-out}
 use denote.Ref.{now}
-use lib.Seq.{sets}
-use mathlib.Core.List.{List}
-use mathlib.Core.Path.{ap, _∙_}
-use Prim.Native.Nat.{ℕ}
 use Rattle.kexbardi_files.specs.Files.{runLeft, runAnswers}
 use borrow.Author.Tests.{eq-eqb, ne-eqb}
 use borrow.Author.Needs.{needs}
@@ -50,11 +46,9 @@ returns-3 c =
     let i = r .before .before .before in
     let e = i .before .before in
     let a = e .before .before .before .before .before .args in
-    let ensured = rw (i .records-in .ensures) at (r .run .ensures) in
-    let x = c .before .ended .given in (
-      rw (x .1) at (carried-out _ _ (e .before .if1 .left) (e .if2 .left) _ _ _ (ensured .0) (k .keep-records .ensures) (now (a .count)) (now (a .refused))),
-      ensured .1 ∙ ap (λ (l : List ℕ). sets (now (a .answers)) 0 l) (answered _ _ (e .before .if1 .left) (e .if2 .left) _),
-    )
+    let said = rw (i .records-in .ensures) at (r .run .ensures) in
+    let w = carried-out _ _ (e .before .if1 .left) (e .if2 .left) _ _ _ (said .0) (now (a .answers)) (now (a .count)) (now (a .refused)) (k .keep-records .ensures) (said .1) in
+    (rw (c .before .ended .given .1) at (w .0), w .1)
 
 same-length-4 : tie.Need-same-length-4
 same-length-4 c = search needs
@@ -72,11 +66,9 @@ returns-4 c =
     let i = r .before .before .before in
     let e = i .before .before in
     let a = e .before .before .before .before .before .args in
-    let ensured = rw (i .records-in .ensures) at (r .run .ensures) in
-    let x = c .before .ended2 .given in (
-      rw (x .1) at (carried-out _ _ (e .before .if1 .left) (e .if2 .left) _ _ _ (ensured .0) (k .keep-records .ensures) (now (a .count)) (now (a .refused))),
-      ensured .1 ∙ ap (λ (l : List ℕ). sets (now (a .answers)) 0 l) (answered _ _ (e .before .if1 .left) (e .if2 .left) _),
-    )
+    let said = rw (i .records-in .ensures) at (r .run .ensures) in
+    let w = carried-out _ _ (e .before .if1 .left) (e .if2 .left) _ _ _ (said .0) (now (a .answers)) (now (a .count)) (now (a .refused)) (k .keep-records .ensures) (said .1) in
+    (rw (c .before .ended2 .given .1) at (w .0), w .1)
 
 pub kexbardi-run-spec : {M : Type 1} → statement M
 kexbardi-run-spec =
