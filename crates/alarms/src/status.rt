@@ -105,18 +105,20 @@ pub fn status_word(
     ensures { λ r. ⌜ r ≡ wordOf (bitsOf (statusOf mode bits limits output stored seen)) ⌝ }
 {
     let manual = is_manual(mode);
+    let levels = level_bits(bits.level, limits, stored, seen.pv);
+    let deviations = deviation_bits(
+        bits.deviation & !manual,
+        limits,
+        stored,
+        seen.setpoint,
+        seen.pv,
+    );
     let change = distance(seen.pv, seen.last);
     let fault = contradiction(bits, limits);
     let limited = saturated(manual, output, seen.output, seen.setpoint, seen.pv);
     mode_bit(mode)
-        + level_bits(bits.level, limits, stored, seen.pv)
-        + deviation_bits(
-            bits.deviation & !manual,
-            limits,
-            stored,
-            seen.setpoint,
-            seen.pv,
-        )
+        + levels
+        + deviations
         + flag(bits.change & seen.sampled & (limits.change < change), 512)
         + flag(fault, 1024)
         + flag(limited, 2048)

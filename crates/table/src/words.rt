@@ -3,11 +3,11 @@ ghost use mathlib.Core.Path.{_≡_};
 ghost use lib.ListN.{getD};
 ghost use Rattle.table.specs.Words.{bcd, badDigit, clearRequests};
 
-// Four BCD digits as a number.
+// Four BCD digits as a number: the word less what a digit's place has too much, 16 for 10.
 pub(crate) fn decimal(word: u16) -> u16
     ensures { λ r. ⌜ r ≡ bcd word ⌝ }
 {
-    word / 4096 % 16 * 1000 + word / 256 % 16 * 100 + word / 16 % 16 * 10 + word % 16
+    word - 6 * (word / 16) - 60 * (word / 256) - 600 * (word / 4096)
 }
 
 // Whether one of the four digits is above 9.

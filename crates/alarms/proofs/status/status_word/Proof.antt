@@ -7,6 +7,12 @@ use Rattle.alarms.proofs.status.status_word.Tie as tie
 is-manual-requires : tie.Need-is-manual-requires
 is-manual-requires c κs = search needs
 
+level-bits-requires : tie.Need-level-bits-requires
+level-bits-requires c κs = search needs
+
+deviation-bits-requires : tie.Need-deviation-bits-requires
+deviation-bits-requires c κs = search needs
+
 distance-requires : tie.Need-distance-requires
 distance-requires c κs = search needs
 
@@ -19,14 +25,8 @@ saturated-requires c κs = search needs
 mode-bit-requires : tie.Need-mode-bit-requires
 mode-bit-requires c κs = search needs
 
-level-bits-requires : tie.Need-level-bits-requires
-level-bits-requires c κs = search needs
-
 add-result : tie.Need-add-result
 add-result c = search needs
-
-deviation-bits-requires : tie.Need-deviation-bits-requires
-deviation-bits-requires c κs = search needs
 
 add-result-2 : tie.Need-add-result-2
 add-result-2 c = search needs
@@ -51,19 +51,20 @@ add-result-5 c = search needs
 
 returns : tie.Need-returns
 returns c =
-    let groups = c .before .before .before .before .before .before in
-    let parts = groups .before .before .before .before in
+    let mode = c .before .before .before .before .before .before in
+    let parts = mode .before .before .before in
+    let groups = parts .before in
     simp (
       c .flag3 .ensures .value,
       c .before .flag2 .ensures .value,
       c .before .before .flag .ensures .value,
+      mode .mode-bit .ensures .value,
+      mode .before .saturated .ensures,
+      mode .before .before .contradiction .ensures,
+      parts .distance .ensures,
       groups .deviation-bits .ensures .value,
       groups .before .before .level-bits .ensures .value,
-      groups .before .before .before .mode-bit .ensures .value,
-      parts .saturated .ensures,
-      parts .before .contradiction .ensures,
-      parts .before .before .distance .ensures,
-      parts .before .before .before .is-manual .ensures,
+      groups .before .before .before .is-manual .ensures,
     ) (word-sum _ _ _ _ _ _)
 
 pub status-word-spec : {M : Type 1} → statement M
@@ -71,13 +72,13 @@ status-word-spec =
     tie.close
     (tie.spec
     is-manual-requires
+    level-bits-requires
+    deviation-bits-requires
     distance-requires
     contradiction-requires
     saturated-requires
     mode-bit-requires
-    level-bits-requires
     add-result
-    deviation-bits-requires
     add-result-2
     flag-requires
     add-result-3
