@@ -2,18 +2,16 @@
 -- list of the desk's calls, holds of every list of calls from C.
 use Prim.Native.Nat.{ℕ, _*_, _≤_, _<_, _%_, _+_}
 use native.Mathlib.Omega.{arith}
-use mathlib.Core.Bool.{false}
 use mathlib.Core.Path.{_≡_, refl, sym, ap, _∙_}
 use mathlib.Core.List.{List}
 use lib.IntN.{ℤ}
 use lib.ListN.{length, set}
 use lib.Seq.{set-getD}
-use borrow.Author.Tests.{eq-eqb, ltb-false}
-use Rattle.table.specs.Words.Laws.{none-at}
+use borrow.Author.Tests.{eq-eqb}
 use Rattle.engine.specs.declared.record.Carried.{Carried}
 use Rattle.engine.specs.declared.refusal.Answer.{Answer}
 use Rattle.engine.specs.declared.refusal.Answer.the-variants.{Accepted, Refused}
-use Rattle.engine.specs.Records.{resetRecord, recordTests, badRecord}
+use Rattle.engine.specs.Records.{resetRecord}
 use Rattle.engine.specs.Refusals.{numberOf, answerOf}
 use Rattle.engine.specs.Samples.{sampleResult, sampleWords}
 use Rattle.engine.proofs.Closed.{closed}
@@ -21,13 +19,8 @@ use Rattle.desk.specs.declared.Call.{Call}
 use Rattle.desk.specs.declared.Call.the-variants.{Sample}
 use Rattle.desk.specs.Calls.{slotOf, answerTo, wordsAfter, recordsAfter}
 use Rattle.lent.specs.Layout.{numbersOf, recordAt, recordsIn}
-use Rattle.lent.specs.Layout.Laws.{put-record, found-record}
+use Rattle.lent.specs.Layout.Laws.{words-in-range, put-record, found-record}
 use Rattle.kexbardi.specs.Interface.{leftBy, sampleLeft}
-
--- the PVs of a record in range are words
-words-last : (c : Carried) → badRecord c ≡ false → (c .past .last ≤ 65535) × (c .past .prior ≤ 65535)
-unfolding badRecord
-words-last c e = let no = none-at (recordTests c) e in (ltb-false 65535 (c .past .last) (no 6), ltb-false 65535 (c .past .prior) (no 7))
 
 module _ (ws : List ℕ) (ns : List ℤ) (line : List ℕ) (k raw : ℕ) (words : length ws ≡ 1024) (numbers : length ns ≡ 128) where
   slot : slotOf k < 16
@@ -43,7 +36,7 @@ module _ (ws : List ℕ) (ns : List ℤ) (line : List ℕ) (k raw : ℕ) (words 
   unfolding sampleResult
   by Accepted e =
       let next = sampleResult ws carried k raw .carried in
-      let w = words-last next (closed ws carried k raw e) in
+      let w = words-in-range next (closed ws carried k raw e) in
       (refl, refl, put-record ns (slotOf k) next slot numbers (w .0) (w .1))
   by (Refused why) e =
       let same = set-getD (recordsIn ns) (slotOf k) resetRecord in

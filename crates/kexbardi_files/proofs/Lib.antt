@@ -1,2 +1,3 @@
--- What the calls leave, in plain values.
+-- What the calls leave, in plain values, and that it is what the session leaves.
 pub mod Leaving
+pub mod OnTheDesk

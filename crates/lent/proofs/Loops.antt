@@ -9,6 +9,7 @@ use lib.ListN.{length, getD, set, take, replicate, replicate-append-replicate, l
 use lib.Seq.{sets, sets-eq, take-suc-set, take-length}
 use Rattle.engine.specs.declared.record.Carried.{Carried}
 use Rattle.engine.specs.Records.{resetRecord}
+use Rattle.lent.specs.Layout.Laws.{length-records}
 use Rattle.lent.specs.Layout.{recordAt, recordsFrom, keptAt, keptFrom, keptIn}
 
 -- ---- a buffer cleared
@@ -33,11 +34,6 @@ cleared {before = before} {a = a} {l = l} {i = i} c h =
     rw (sym (c .same)) (sym (take-length l) ∙ (rw e at (c .front)))
 
 -- ---- the records of a buffer
-
-length-records : (n slot : ℕ) (ns : List ℤ) → length (recordsFrom n slot ns) ≡ n
-unfolding recordsFrom
-length-records zero slot ns = refl
-length-records (suc n) slot ns = ap suc (length-records n (slot + 1) ns)
 
 -- a list written over one as long
 pub sets-whole : {A : Type 0} (l vs : List A) → length vs ≡ length l → sets l 0 vs ≡ vs

@@ -14,6 +14,7 @@ use Rattle.engine.specs.declared.record.Carried.{Carried}
 use Rattle.engine.specs.Records.{resetRecord}
 use Rattle.lent.specs.declared.layout.Fields.{Fields}
 pub mod Laws
+pub mod Kept
 
 -- ---- a record as numbers
 

@@ -2,9 +2,9 @@
 use Prim.Native.Nat.{ℕ, zero, suc, _+_, _*_, _≤_, _<_}
 use native.Mathlib.Omega.{arith}
 use native.Mathlib.Nat.{add-zero, zero-add}
-use mathlib.Core.Path.{_≡_, refl, sym, subst, _∙_}
+use mathlib.Core.Path.{_≡_, refl, sym, ap, subst, _∙_}
 use mathlib.Core.Logic.{_≢_}
-use mathlib.Core.Bool.{Bool, true, false}
+use mathlib.Core.Bool.{Bool, true, false, cond}
 use mathlib.Core.List.{List, [], _∷_}
 use lib.Dec.{T, ltb}
 use lib.IntN.{ℤ, pos, negsuc}
@@ -16,7 +16,8 @@ use Rattle.table.specs.declared.mode.Mode.{Mode}
 use Rattle.table.specs.declared.mode.Mode.the-variants.{Manual, Automatic, Cascade}
 use Rattle.table.specs.Words.Laws.{none-at}
 use Rattle.engine.specs.declared.record.Carried.{Carried}
-use Rattle.lent.specs.Layout.{modeNumber, flag, numbersOf, fieldTests, noRecord, modeFrom, wordFrom, recordFrom, fieldsAt, recordAt, recordsFrom, recordsIn}
+use Rattle.engine.specs.Records.{recordTests, badRecord}
+use Rattle.lent.specs.Layout.{brokenRecord, modeNumber, flag, numbersOf, fieldTests, noRecord, modeFrom, wordFrom, recordFrom, fieldsAt, recordAt, recordsFrom, recordsIn}
 
 -- ---- a record is read back. Its PVs are words, as they are in every record in range
 
@@ -42,6 +43,11 @@ read-back c h k =
     let v = flag-number (c .velocity) in
     let s = flag-number (c .sampled) in
     simp (m .0, m .1, m .2, l .0, l .1, p .0, p .1, v .0, v .1, v .2, s .0, s .1, s .2)
+
+-- the PVs of a record in range are words
+pub words-in-range : (c : Carried) → badRecord c ≡ false → (c .past .last ≤ 65535) × (c .past .prior ≤ 65535)
+unfolding badRecord
+words-in-range c e = let no = none-at (recordTests c) e in (ltb-false 65535 (c .past .last) (no 6), ltb-false 65535 (c .past .prior) (no 7))
 
 -- ---- numbers that are a record
 
@@ -70,6 +76,16 @@ same-numbers mode bias output last prior error velocity sampled e =
     rw e
     (simp (mode-back mode (no 0) (no 1), word-back last (no 2) (no 3), word-back prior (no 4) (no 5), flag-back velocity (no 6) (no 7), flag-back sampled (no 8) (no 9)))
 
+-- a word read from any number is one
+pub word-high : (z : ℤ) → wordFrom z ≤ 65535
+word-high (pos n) = go (ltb n 0) (ltb 65535 n) refl
+  where
+    go : (a b : Bool) → ltb 65535 n ≡ b → cond a 0 (cond b 0 n) ≤ 65535
+    go true b e = omega arith
+    go false true e = omega arith
+    go false false e = ltb-false 65535 n e
+word-high (negsuc n) = omega arith
+
 -- ---- one record put into the buffer
 
 -- a number that is not written over
@@ -87,19 +103,24 @@ inside (v ∷ vs) l i (suc k) d p q =
     let e : i + suc k ≡ suc i + k = omega arith in rw e (inside vs (set l i v) (suc i) k d (omega arith) (rw (length-set l i v) (omega arith)))
 
 -- the slot's own fields, and another's
-fields-put : (ns : List ℤ) (base : ℕ) (c : Carried) → base + 8 ≤ length ns → fieldsAt (sets ns base (numbersOf c)) base ≡ fieldsAt (numbersOf c) 0
+pub fields-put : (ns : List ℤ) (base : ℕ) (c : Carried) → base + 8 ≤ length ns → fieldsAt (sets ns base (numbersOf c)) base ≡ fieldsAt (numbersOf c) 0
 unfolding fieldsAt numbersOf
 fields-put ns base c h =
     let at : (k : ℕ) → k < 8 → getD (sets ns base (numbersOf c)) (base + k) (pos 0) ≡ getD (numbersOf c) k (pos 0) = λ k p. inside (numbersOf c) ns base k (pos 0) p h in
     simp (rw (add-zero base) at (at 0 (omega arith)), at 1 (omega arith), at 2 (omega arith), at 3 (omega arith), at 4 (omega arith), at 5 (omega arith), at 6 (omega arith), at 7 (omega arith))
 
-fields-kept : (ns : List ℤ) (s t : ℕ) (c : Carried) → t ≢ s → fieldsAt (sets ns (8 * s) (numbersOf c)) (8 * t) ≡ fieldsAt ns (8 * t)
+pub fields-kept : (ns : List ℤ) (s t : ℕ) (c : Carried) → t ≢ s → fieldsAt (sets ns (8 * s) (numbersOf c)) (8 * t) ≡ fieldsAt ns (8 * t)
 unfolding fieldsAt numbersOf
 fields-kept ns s t c h =
     let at : (r : ℕ) → r < 8 → getD (sets ns (8 * s) (numbersOf c)) (8 * t + r) (pos 0) ≡ getD ns (8 * t + r) (pos 0) = λ r p. apart (numbersOf c) ns (8 * s) (8 * t + r) (pos 0) (λ k q e. h (omega arith)) in
     simp (rw (add-zero (8 * t)) at (at 0 (omega arith)), at 1 (omega arith), at 2 (omega arith), at 3 (omega arith), at 4 (omega arith), at 5 (omega arith), at 6 (omega arith), at 7 (omega arith))
 
 -- ---- the sixteen records
+
+pub length-records : (n slot : ℕ) (ns : List ℤ) → length (recordsFrom n slot ns) ≡ n
+unfolding recordsFrom
+length-records zero slot ns = refl
+length-records (suc n) slot ns = ap suc (length-records n (slot + 1) ns)
 
 -- a record that is not put over
 kept-from : (n slot s : ℕ) (ns : List ℤ) (c : Carried) → ((t : ℕ) → slot ≤ t → t ≢ s)
@@ -137,3 +158,10 @@ put-record ns slot c p h l m = rw (zero-add slot) at (put-from 16 0 slot ns c p 
 
 pub found-record : (ns : List ℤ) (slot : ℕ) (d : Carried) → slot < 16 → getD (recordsIn ns) slot d ≡ recordAt ns (8 * slot)
 found-record ns slot d p = rw (zero-add slot) at (found-from 16 0 slot ns d p)
+
+-- ---- what is no record is refused
+
+-- what stands for it is out of range, so that the engine answers every sample of it with 5
+pub broken-bad : badRecord brokenRecord ≡ true
+unfolding badRecord brokenRecord
+broken-bad = refl
