@@ -1,15 +1,15 @@
 -- Demand 3, proved: for every list of calls, from any words and any sixteen records, each accepted sample of each loop is accurate.
-use Prim.Native.Nat.{ℕ, _+_, _*_, _%_, _≤_, _<_}
+use Prim.Native.Nat.{ℕ, _+_, _≤_, _<_}
 use native.Mathlib.Omega.{arith}
-use mathlib.Core.Path.{_≡_, refl, sym, ap, _∙_, subst}
-use mathlib.Core.Bool.{Bool, true, false, cond}
+use mathlib.Core.Path.{_≡_, refl, sym, _∙_, subst}
+use mathlib.Core.Bool.{Bool, true, false}
 use mathlib.Core.List.{List, [], _∷_}
-use lib.Dec.{T, eqb, lit<}
+use lib.Dec.{eqb, lit<}
 use lib.ListN.{length, getD, set, length-set}
 use lib.Seq.{getD-set-same}
 use lib.IntN.{pos}
 use borrow.Author.Tests.{eqb-true, eqb-false}
-use Rattle.numbers.specs.Fractions.{over, whole, _≤ᶠ_, Near}
+use Rattle.numbers.specs.Fractions.{whole, _≤ᶠ_, Near}
 use Rattle.numbers.specs.Fractions.Laws.{at-over, at-add, at-in, near-weaken}
 use Rattle.table.specs.declared.mode.Mode.{Mode}
 use Rattle.table.specs.Words.{baseOf}

@@ -1,7 +1,7 @@
 -- Demand 3 at work, so that it is seen not to be empty: the plain loop computed beside three lists, and the claim used on the first.
 use Prim.Native.Nat.{ℕ, _+_}
 use mathlib.Core.Path.{_≡_, refl}
-use mathlib.Core.Bool.{Bool, true, not, cond, _&&_}
+use mathlib.Core.Bool.{Bool, true, not, _&&_}
 use mathlib.Core.List.{List, [], _∷_, map}
 use lib.Dec.{lit<, lit≤}
 use lib.ListN.{getD, set}
@@ -24,10 +24,10 @@ use Rattle.engine.specs.Stores.{storeAnswer, storeWords}
 use Rattle.alarms.specs.Status.{apart, levelsOf, statusOf}
 use Rattle.desk.specs.declared.Call.{Call}
 use Rattle.desk.specs.declared.Call.the-variants.{Store, Sample}
-use Rattle.desk.specs.Calls.{resetWords, resetRecords, recordOf, answerTo, wordsAfter, recordsAfter}
+use Rattle.desk.specs.Calls.{resetWords, resetRecords, answerTo, wordsAfter, recordsAfter}
 use Rattle.desk.specs.Exact.{exactSum, exactOutput, exactBias}
 use Rattle.desk.specs.Plain.{Plain, startOf, countAfter, movedBy, plainAfter, tolerance}
-use Rattle.desk.specs.Lists.{Desk, Turn, found, left, fed, Accurate, Claim, Holds}
+use Rattle.desk.specs.Lists.{Desk, Turn, found, left, fed, Claim, Holds}
 use Rattle.desk.proofs.Accuracy.{accurate}
 
 -- what is seen of loop k after a turn: the answer's number, its output word, the plain loop's n, and whether the exact output is a given count

@@ -2,7 +2,6 @@
 use engine::Answer;
 use engine::Carried;
 ghost use mathlib.Core.Path.{_≡_};
-ghost use lib.ListN.{length};
 ghost use Rattle.desk.specs.Calls.{resetWords, resetRecords, answerTo, wordsAfter, recordsAfter};
 
 // A call: a value stored at an address, or a sample of a loop with a raw PV.

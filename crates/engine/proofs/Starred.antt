@@ -16,7 +16,7 @@ use Rattle.control.specs.Forms.{outsideOf, positionOf, velocityOf}
 use Rattle.alarms.specs.Status.{apart, levelsOf, statusOf}
 use Rattle.engine.specs.declared.record.Carried.{Carried}
 use Rattle.engine.specs.Records.{resetRecord, badRecord}
-use Rattle.engine.specs.Refusals.{badSetting, answerOf, numberOf}
+use Rattle.engine.specs.Refusals.{badSetting, answerOf}
 use Rattle.engine.specs.Steps.{pvOf, setpointOf, entering, heldOf, startOf, targetOf, errorIn, sensedOf, pastOf, positionInputs, velocityInputs, termsIn, movedPosition, movedVelocity, movedOf, drivenOf, outputWord, biasWord, statusWord, writtenOf, nextOf, stepOf}
 use Rattle.engine.specs.Samples.{writtenTo, sampleResult, sampleWords}
 

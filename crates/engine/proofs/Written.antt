@@ -1,11 +1,11 @@
 -- Nothing else: an accepted sample changes only words 0, 2, 3, 4, 5 and 6 of its own loop; a refused one changes none.
-use Prim.Native.Nat.{ℕ, _+_, _*_, _≤_, _<_}
+use Prim.Native.Nat.{ℕ, _+_, _≤_, _<_}
 use native.Mathlib.Omega.{arith}
 use native.Mathlib.Nat.{add-zero}
-use mathlib.Core.Path.{_≡_, refl, ap, _∙_}
+use mathlib.Core.Path.{_≡_, refl}
 use mathlib.Core.Logic.{_≢_}
 use mathlib.Core.List.{List}
-use lib.ListN.{length, getD, set, take, drop, length-set}
+use lib.ListN.{length, getD, set, length-set}
 use lib.Seq.{getD-set-same, getD-set-other, drop-set-add, take-set-lt}
 use Rattle.table.specs.Words.{baseOf, blockAt}
 use Rattle.engine.specs.declared.record.Carried.{Carried}

@@ -12,7 +12,7 @@ use Rattle.engine.specs.declared.sampling.Sampled.{Sampled}
 use Rattle.engine.specs.Records.{resetRecord}
 use Rattle.engine.specs.Refusals.{numberOf, answerOf}
 use Rattle.engine.specs.Samples.{sampleResult, sampleWords}
-use Rattle.desk.specs.Calls.{resetWords, resetRecords, slotOf}
+use Rattle.desk.specs.Calls.{resetRecords, slotOf}
 use Rattle.lent.specs.Layout.{numbersOf, allNumbers, recordAt}
 use Rattle.kexbardi.specs.Interface.{desk, resetLeft, lineOf, left, sampleLeft}
 

@@ -1,8 +1,8 @@
 -- A sample through the C interface is the desk's call on the records that the numbers stand for, whatever these hold: so demand 3, proved of every
 -- list of the desk's calls, holds of every list of calls from C.
-use Prim.Native.Nat.{ℕ, _*_, _≤_, _<_, _%_, _+_}
+use Prim.Native.Nat.{ℕ, _*_, _<_}
 use native.Mathlib.Omega.{arith}
-use mathlib.Core.Path.{_≡_, refl, sym, ap, _∙_}
+use mathlib.Core.Path.{_≡_, refl, sym}
 use mathlib.Core.List.{List}
 use lib.IntN.{ℤ}
 use lib.ListN.{length, set}
@@ -15,10 +15,9 @@ use Rattle.engine.specs.Records.{resetRecord}
 use Rattle.engine.specs.Refusals.{numberOf, answerOf}
 use Rattle.engine.specs.Samples.{sampleResult, sampleWords}
 use Rattle.engine.proofs.Closed.{closed}
-use Rattle.desk.specs.declared.Call.{Call}
 use Rattle.desk.specs.declared.Call.the-variants.{Sample}
 use Rattle.desk.specs.Calls.{slotOf, answerTo, wordsAfter, recordsAfter}
-use Rattle.lent.specs.Layout.{numbersOf, recordAt, recordsIn}
+use Rattle.lent.specs.Layout.{recordAt, recordsIn}
 use Rattle.lent.specs.Layout.Laws.{words-in-range, put-record, found-record}
 use Rattle.kexbardi.specs.Interface.{leftBy, sampleLeft}
 

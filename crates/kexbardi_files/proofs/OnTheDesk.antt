@@ -1,6 +1,6 @@
 -- The records that the numbers stand for after a file are those that the session leaves, whatever the numbers hold: so what is proved of a
 -- drill file (demands 1 and 3) is proved of one run from C.
-use Prim.Native.Nat.{ℕ, _<_, _≤_}
+use Prim.Native.Nat.{ℕ, _<_}
 use native.Mathlib.Omega.{arith}
 use mathlib.Core.Path.{_≡_, refl, sym, ap, subst, _∙_}
 use mathlib.Core.Bool.{Bool, true, false}

@@ -8,7 +8,7 @@ use lib.ListN.{length}
 use lib.Seq.{sets}
 use Rattle.session.specs.declared.running.Ended.{Ended}
 use Rattle.session.specs.declared.running.Ended.the-variants.{Counts, Stopped}
-use Rattle.session.specs.Session.{Whole, sessionOf, answersOf, printedWithin}
+use Rattle.session.specs.Session.{sessionOf, answersOf, printedWithin}
 use Rattle.lent.specs.Layout.{recordsIn, keptIn, fitting}
 
 -- ---- a file carried out

@@ -2,8 +2,8 @@
 use Prim.Native.Nat.{ℕ, zero, suc, _+_, _*_, _-_, _≤_, _<_}
 use native.Mathlib.Omega.{arith}
 use native.Mathlib.Numerals.{add-one}
-use mathlib.Core.Path.{_≡_, refl, sym, ap, _∙_}
-use mathlib.Core.List.{List, [], _∷_, _++_, append-nil}
+use mathlib.Core.Path.{_≡_, sym, _∙_}
+use mathlib.Core.List.{List, append-nil}
 use lib.IntN.{ℤ}
 use lib.ListN.{length, getD, set, take, replicate, replicate-append-replicate, length-set, drop-of-length-le}
 use lib.Seq.{sets, sets-eq, take-suc-set, take-length}

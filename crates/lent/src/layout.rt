@@ -4,7 +4,6 @@ use engine::Carried;
 use engine::Past;
 use table::Mode;
 ghost use mathlib.Core.Path.{_≡_};
-ghost use mathlib.Core.Bool.{cond};
 ghost use lib.IntN.{pos};
 ghost use Rattle.lent.specs.Layout.{modeNumber, flag, numbersOf, noRecord, brokenRecord, modeFrom, wordFrom, recordFrom};
 

@@ -1,14 +1,14 @@
 -- One sample in position form stands near the exact one: where the bias is within n units of the exact bias, the output is within n + 2 units
 -- of the exact output, and the next bias within n + 1 of the next exact bias.
-use Prim.Native.Nat.{ℕ, suc, _+_, _*_, _≤_, _<_}
+use Prim.Native.Nat.{ℕ, _+_, _*_, _≤_, _<_}
 use native.Mathlib.Omega.{arith}
-use mathlib.Core.Path.{_≡_, refl, ap, _∙_}
+use mathlib.Core.Path.{_≡_, refl}
 use mathlib.Core.Bool.{Bool, true, false, not, _&&_}
 use mathlib.Core.Logic.{_⊎_, inl, inr}
 use lib.Dec.{T, lit<}
 use lib.IntN.{ℤ, pos, negℤ, _+ℤ_, _-ℤ_}
 use lib.Signed.{_≤ℤ_, ltZ}
-use Rattle.numbers.specs.Whole.{linear, add, sub, neg}
+use Rattle.numbers.specs.Whole.{linear, add, sub}
 use Rattle.numbers.specs.Limits.{clampℤ}
 use Rattle.numbers.specs.Limits.Laws.{by-test, Clamped, clamped, clamped-map, clamp-kept, orderℤ}
 use Rattle.numbers.specs.Rounding.{unitsOf}

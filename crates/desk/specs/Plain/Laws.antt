@@ -1,18 +1,17 @@
 -- The invariant that ties a loop's carried record to its plain loop, and that an accepted sample keeps it and is accurate.
-use Prim.Native.Nat.{ℕ, zero, suc, _+_, _*_, _≤_, _<_}
+use Prim.Native.Nat.{ℕ, zero, suc, _+_, _≤_, _<_}
 use native.Mathlib.Omega.{arith}
-use mathlib.Core.Path.{_≡_, refl, sym, ap, _∙_, subst}
+use mathlib.Core.Path.{_≡_, refl, subst}
 use mathlib.Core.Bool.{Bool, true, false, cond, not, _||_, or-true}
 use lib.Dec.{lit<}
-use lib.IntN.{ℤ, pos, natAbs, _-ℤ_}
+use lib.IntN.{ℤ, pos, natAbs}
 use lib.Signed.{_≤ℤ_}
 use Rattle.numbers.specs.Whole.{linear, abs}
 use Rattle.numbers.specs.Rounding.{halfUp, unitsOf}
-use Rattle.numbers.specs.Fractions.{Fraction, over, whole, _+ᶠ_, _≤ᶠ_, Near}
-use Rattle.numbers.specs.Fractions.Laws.{at-over, at-add, at-in, near-in, near-trans, near-weaken, count-near}
+use Rattle.numbers.specs.Fractions.{Fraction, over, whole, Near}
+use Rattle.numbers.specs.Fractions.Laws.{at-over, at-add, near-in, near-trans, count-near}
 use Rattle.table.specs.declared.mode.Mode.{Mode}
 use Rattle.table.specs.declared.settings.Reading.{Reading}
-use Rattle.table.specs.declared.settings.Settings.{Settings}
 use Rattle.table.specs.Modes.{isManual}
 use Rattle.control.specs.declared.forms.Drive.{Drive}
 use Rattle.control.specs.Terms.{exactTerms, termsOf}
@@ -20,11 +19,11 @@ use Rattle.control.specs.Forms.{positionOf}
 use Rattle.engine.specs.declared.record.Past.{Past}
 use Rattle.engine.specs.declared.record.Carried.{Carried}
 use Rattle.engine.specs.declared.step.Sensed.{Sensed}
-use Rattle.engine.specs.Steps.{heldOf, startOf as engineStart, lowUnits, highUnits, sensedOf, pastOf, positionInputs, termsIn, movedPosition, movedVelocity, movedOf, drivenOf, outputWord, nextOf, writtenOf, stepOf, Usable, Movable, Drivable}
+use Rattle.engine.specs.Steps.{heldOf, startOf as engineStart, lowUnits, highUnits, sensedOf, pastOf, positionInputs, termsIn, movedPosition, movedOf, drivenOf, outputWord, nextOf, writtenOf, stepOf, Usable}
 use Rattle.engine.specs.Steps.Laws.{drivable, moved-inside}
 use Rattle.engine.proofs.Limits.{Between, word-inside}
 use Rattle.desk.specs.Exact.{units, exactOutput, exactBias}
-use Rattle.desk.specs.Exact.Laws.{rounded, position-near}
+use Rattle.desk.specs.Exact.Laws.{position-near}
 use Rattle.desk.specs.Plain.{Plain, startOf, countAfter, inputsOf, movedBy, plainAfter, tolerance}
 
 -- modes and algorithms agree; and where n is above 0, a sample was accepted, the last PVs agree, and the bias is within n units of the exact one

@@ -1,19 +1,17 @@
 -- The laws of the refusals: what an accepted sample's words and record are known to be.
-use Prim.Native.Nat.{ℕ, zero, suc, _*_, _^_, _≤_, _<_}
-use native.Mathlib.Omega.{arith}
-use mathlib.Core.Path.{_≡_, refl, ap}
-use mathlib.Core.Bool.{Bool, true, false, cond, not, _&&_, _||_}
+use Prim.Native.Nat.{ℕ, zero, suc, _≤_}
+use mathlib.Core.Path.{_≡_, refl}
+use mathlib.Core.Bool.{Bool, true, false, cond}
 use mathlib.Core.List.{List, [], _∷_, _++_}
-use lib.ListN.{length, getD}
+use lib.ListN.{length}
 use borrow.Author.Tests.{eqb-true, not-false, ltb-false}
-use Rattle.table.specs.declared.settings.Reading.{Reading}
 use Rattle.table.specs.Words.{baseOf}
 use Rattle.table.specs.Settings.{readingOf}
 use Rattle.engine.specs.declared.record.Carried.{Carried}
 use Rattle.engine.specs.declared.refusal.Refusal.{Refusal}
 use Rattle.engine.specs.declared.refusal.Answer.{Answer}
 use Rattle.engine.specs.declared.refusal.Answer.the-variants.{Accepted, Refused}
-use Rattle.engine.specs.Refusals.{Case, firstOf, firstNumber, numberOf, numberOfRefusal, callCases, readingCases, sampleCases, answerOf}
+use Rattle.engine.specs.Refusals.{Case, firstOf, firstNumber, numberOf, numberOfRefusal, callCases, readingCases, answerOf}
 
 -- ---- any list of cases
 

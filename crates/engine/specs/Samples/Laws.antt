@@ -1,19 +1,17 @@
 -- The laws of a sample whole: what it comes to, by its answer.
 use Prim.Native.Nat.{ℕ, _≤_}
-use mathlib.Core.Path.{_≡_, refl, sym, ap, _∙_}
+use mathlib.Core.Path.{_≡_, sym, ap, _∙_}
 use mathlib.Core.List.{List}
 use lib.ListN.{length}
 use borrow.Author.Tests.{eq-eqb, le-ltb}
 use Rattle.table.specs.Words.{baseOf}
 use Rattle.table.specs.Settings.{readingOf}
 use Rattle.engine.specs.declared.record.Carried.{Carried}
-use Rattle.engine.specs.declared.refusal.Refusal.{Refusal}
 use Rattle.engine.specs.declared.refusal.Answer.{Answer}
-use Rattle.engine.specs.declared.refusal.Answer.the-variants.{Accepted, Refused}
 use Rattle.engine.specs.declared.sampling.Sampled.{Sampled}
 use Rattle.engine.specs.Refusals.{numberOf, firstOf, firstNumber, sampleCases, readingCases, answerOf}
 use Rattle.engine.specs.Refusals.Laws.{first-number}
-use Rattle.engine.specs.Samples.{writtenTo, stepAt, recordBy, wordsBy, sampleResult, sampleWords}
+use Rattle.engine.specs.Samples.{recordBy, wordsBy, sampleResult, sampleWords}
 
 -- past 5 and 4, the reading decides
 pub answer-read : (ws : List ℕ) (c : Carried) (k raw : ℕ) → length ws ≡ 1024 → 1 ≤ k → k ≤ 16

@@ -1,26 +1,23 @@
 -- The laws of the steps: an accepted sample can be stepped, and what it leaves is within its limits and ranges.
-use Prim.Native.Nat.{ℕ, _+_, _*_, _^_, _≤_, _<_}
+use Prim.Native.Nat.{ℕ, _+_, _*_, _^_, _≤_}
 use native.Mathlib.Omega.{arith}
 use native.Mathlib.Nat.{mul-le-mul, mul-le-mul-right}
-use mathlib.Core.Path.{_≡_, refl, ap}
-use mathlib.Core.Bool.{Bool, true, false, cond, not, _&&_, _||_}
+use mathlib.Core.Path.{_≡_, refl}
+use mathlib.Core.Bool.{Bool, true, false, not, _&&_, _||_}
 use mathlib.Core.List.{List, [], _∷_}
 use lib.ListN.{getD}
 use lib.Dec.{ltb}
 use lib.IntN.{ℤ, pos, negℤ, natAbs, _+ℤ_, _-ℤ_}
 use lib.Signed.{_≤ℤ_, ltZ}
 use borrow.Author.Tests.{ltb-false, eqb-false}
-use Rattle.numbers.specs.Whole.{linear, add, sub, neg, abs, abs-in, abs-sub, abs-add}
-use Rattle.numbers.specs.Limits.{clampℕ}
+use Rattle.numbers.specs.Whole.{linear, add, sub, neg, abs, abs-in, abs-sub}
 use Rattle.numbers.specs.Limits.Laws.{by-test, clamped, orderℕ}
 use Rattle.numbers.specs.Rounding.{unitsOf}
-use Rattle.numbers.specs.Roots.{rootOf}
 use Rattle.numbers.specs.Roots.Laws.{root-exact, root-high}
 use Rattle.numbers.proofs.Machine.{left}
-use Rattle.table.specs.declared.mode.Mode.{Mode}
 use Rattle.table.specs.declared.settings.Reading.{Reading}
 use Rattle.table.specs.declared.settings.Settings.{Settings}
-use Rattle.table.specs.Words.{blockAt, any}
+use Rattle.table.specs.Words.{blockAt}
 use Rattle.table.specs.Words.Laws.{none-at, scale-low, scale-high}
 use Rattle.table.specs.Modes.{isAutomatic, isCascade}
 use Rattle.table.specs.Settings.{mode2Of, settingsOf, readingOf}

@@ -1,7 +1,6 @@
 -- Records put back over the numbers that they were read from, and read again, are those records: whatever some of the numbers hold.
 use Prim.Native.Nat.{ℕ, zero, suc, _+_, _*_, _≤_, _<_}
 use native.Mathlib.Omega.{arith}
-use native.Mathlib.Nat.{zero-add}
 use mathlib.Core.Path.{_≡_, refl, sym, ap, _∙_}
 use mathlib.Core.Logic.{_≢_}
 use mathlib.Core.Bool.{Bool, true, false}
@@ -9,11 +8,11 @@ use mathlib.Core.List.{List}
 use lib.Dec.{eqb}
 use borrow.Author.Tests.{eqb-true, eqb-false}
 use lib.IntN.{ℤ}
-use lib.ListN.{length, getD, set, length-set}
+use lib.ListN.{length, getD}
 use lib.Seq.{sets, length-sets, ext-getD}
 use Rattle.engine.specs.declared.record.Carried.{Carried}
 use Rattle.engine.specs.Records.{resetRecord}
-use Rattle.lent.specs.Layout.{numbersOf, noRecord, brokenRecord, recordFrom, fieldsAt, recordAt, recordsFrom, recordsIn, keptAt, keptFrom, keptIn}
+use Rattle.lent.specs.Layout.{numbersOf, noRecord, brokenRecord, recordFrom, fieldsAt, recordAt, recordsIn, keptAt, keptFrom, keptIn}
 use Rattle.lent.specs.Layout.Laws.{read-back, word-high, fields-put, fields-kept, length-records, found-record}
 
 -- a record that may stand in the place of a slot's numbers: the broken one where they are no record, else any whose PVs are words

@@ -1,15 +1,15 @@
 -- The laws of clamping, once for numbers of any kind that an order with its test is known of, and then for whole numbers.
-use mathlib.Core.Path.{_≡_, refl, ap, _∙_}
+use mathlib.Core.Path.{_≡_, refl}
 use mathlib.Core.Bool.{Bool, true, false, not, cond}
 use mathlib.Core.Logic.{_⊎_, inl, inr}
-use Prim.Native.Nat.{ℕ, _+_, _*_, _≤_, _<_}
+use Prim.Native.Nat.{ℕ, _+_, _≤_, _<_}
 use native.Mathlib.Omega.{arith}
 use native.Mathlib.Nat.{le-refl, le-trans}
 use lib.Dec.{T, ltb, ltb→lt, nltb→le}
 use lib.IntN.{ℤ, pos, natAbs, _+ℤ_, _-ℤ_}
 use lib.Signed.{ltZ, _≤ℤ_, _<ℤ_, ltZ-yes, ltZ-no, ≤ℤ-refl}
 use Rattle.numbers.specs.Whole.{linear, add, sub, abs, abs-in}
-use Rattle.numbers.specs.Limits.{clampBy, clampℕ, clampℤ}
+use Rattle.numbers.specs.Limits.{clampBy, clampℤ}
 
 module _ {A : Type 0} (_≼_ : A → A → Type 0) where
   infix 50 _≼_

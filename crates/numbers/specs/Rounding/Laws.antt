@@ -2,7 +2,7 @@
 use mathlib.Core.Path.{_≡_, refl, sym, ap, _∙_}
 use Prim.Native.Nat.{ℕ, zero, suc, _+_, _*_, _/_, _≤_, _<_}
 use native.Mathlib.Omega.{arith}
-use native.Mathlib.Nat.{mul-pos, div-zero, div-eq-of-lt-le, div-mul-le-self, lt-div-mul-add, le-div-iff-mul-le, mul-le-mul-right}
+use native.Mathlib.Nat.{div-zero, div-eq-of-lt-le, div-mul-le-self, lt-div-mul-add, le-div-iff-mul-le, mul-le-mul-right}
 use lib.IntN.{ℤ, pos, negsuc, negℤ, natAbs, _-ℤ_, _*ℤ_, negℤ-negℤ}
 use lib.Signed.{_≤ℤ_, _<ℤ_}
 use Rattle.numbers.specs.Whole.{linear, le-out, lt-out, neg, sub, scale-neg, abs-in, abs-neg}

@@ -5,7 +5,6 @@ use native.Mathlib.Omega.{arith}
 use lib.ListN.{length}
 use lib.Seq.{length-take-le}
 use mathlib.Core.Path.{sym}
-use Rattle.text.specs.Text.{decimalOf}
 use Rattle.text.specs.Text.Laws.{decimal-length}
 use Rattle.worked_numbers.proofs.print_decimal.Statement.{statement}
 use Rattle.worked_numbers.proofs.print_decimal.Tie as tie

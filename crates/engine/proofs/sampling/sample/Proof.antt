@@ -2,7 +2,6 @@
 use borrow.Author.Needs.{needs}
 use borrow.Author.Tests.{eq-eqb, ne-eqb, lt-ltb, le-ltb}
 use mathlib.Core.Path.{_≡_, sym, ap, _∙_}
-use native.Mathlib.Omega.{arith}
 use denote.Ref.{now}
 use Rattle.table.specs.declared.settings.Reading.{Reading}
 use Rattle.table.specs.Words.{baseOf}
@@ -12,7 +11,7 @@ use Rattle.engine.specs.declared.refusal.Answer.the-variants.{Accepted, 
 use Rattle.engine.specs.Refusals.{firstOf, readingCases, answerOf}
 use Rattle.engine.specs.Steps.{stepOf}
 use Rattle.engine.specs.Steps.Laws.{usable}
-use Rattle.engine.specs.Samples.Laws.{Kept, kept, answer-read}
+use Rattle.engine.specs.Samples.Laws.{kept, answer-read}
 use Rattle.engine.proofs.sampling.sample.Statement.{statement}
 use Rattle.engine.proofs.sampling.sample.Tie as tie
 

@@ -1,6 +1,5 @@
 -- `engine::measured` meets its contract: two words multiply to less than 2 ^ 32.
 use borrow.Author.Needs.{needs}
-use mathlib.Core.Path.{_∙_, sym}
 use native.Mathlib.Omega.{arith}
 use native.Mathlib.Nat.{mul-le-mul}
 use Rattle.engine.specs.Steps.{pvOf}

@@ -1,8 +1,7 @@
 -- `engine::step` meets its contract, by what its callees ensure; that the terms can run follows from acceptance (`drivable`).
 use borrow.Author.Needs.{needs}
-use mathlib.Core.Path.{_≡_, _∙_}
 use Rattle.table.specs.Modes.{isManual}
-use Rattle.engine.specs.Steps.{heldOf, sensedOf, drivenOf, stepOf, Usable}
+use Rattle.engine.specs.Steps.{drivenOf, stepOf}
 use Rattle.engine.specs.Steps.Laws.{drivable, moved-output}
 use Rattle.engine.proofs.step.step.Statement.{statement}
 use Rattle.engine.proofs.step.step.Tie as tie

@@ -1,6 +1,5 @@
 -- `engine::target_of` meets its contract, by the test of a forced setpoint.
 use borrow.Author.Needs.{needs}
-use mathlib.Core.Path.{_≡_}
 use Rattle.engine.specs.Steps.{targetOf}
 use Rattle.engine.proofs.step.target_of.Statement.{statement}
 use Rattle.engine.proofs.step.target_of.Tie as tie

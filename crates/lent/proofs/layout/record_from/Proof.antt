@@ -4,7 +4,6 @@ use mir.Facts.{toZ-ofZ}
 use lib.IntN.{ℤ}
 use mir.Syntax.{w64}
 use mathlib.Core.Path.{_≡_, sym, ap, _∙_}
-use Rattle.numbers.proofs.Machine.{back}
 use Rattle.lent.specs.Layout.{modeFrom, wordFrom, recordFrom}
 use borrow.Author.Needs.{needs}
 use Rattle.lent.proofs.layout.record_from.Statement.{statement}

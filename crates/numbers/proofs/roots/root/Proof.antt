@@ -5,7 +5,7 @@ use mathlib.Core.Logic.{⊎-elim}
 use Prim.Native.Nat.{ℕ, suc, _+_, _*_, _-_, _/_, _^_, _≤_, _<_}
 use native.Mathlib.Omega.{arith}
 use native.Mathlib.Nat.{mul-le-mul, pow-suc}
-use Rattle.numbers.specs.Roots.Laws.{Root, root-exact, root-only}
+use Rattle.numbers.specs.Roots.Laws.{root-exact, root-only}
 use Rattle.numbers.proofs.roots.root.Statement.{statement}
 use Rattle.numbers.proofs.roots.root.Tie as tie
 

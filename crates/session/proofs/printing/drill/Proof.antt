@@ -1,7 +1,6 @@
 -- `session::drill` meets its contract: each branch is the case of `printedWithin` that its tests pick.
 use native.Mathlib.Omega.{arith}
 use mathlib.Core.Path.{refl}
-use lib.ListN.{length}
 use borrow.Author.Tests.{lt-ltb, le-ltb}
 use Rattle.session.specs.Session.{printedOf, printedWithin}
 use Rattle.session.proofs.Loops.{printed}

@@ -1,7 +1,6 @@
 -- `session::put_too_long` meets its contract: each branch is the case of `withRoom` that its test picks.
 use native.Mathlib.Omega.{arith}
 use mathlib.Core.Path.{refl}
-use lib.ListN.{length}
 use borrow.Author.Tests.{lt-ltb, le-ltb}
 use borrow.Author.Needs.{needs}
 use Rattle.session.proofs.printing.put_too_long.Statement.{statement}

@@ -1,6 +1,5 @@
 -- `session::keep` meets its contract: a store behind the end changes nothing.
-use native.Mathlib.Omega.{arith}
-use mathlib.Core.Path.{refl, sym}
+use mathlib.Core.Path.{sym}
 use lib.Seq.{set-out}
 use borrow.Author.Needs.{needs}
 use Rattle.session.proofs.running.keep.Statement.{statement}

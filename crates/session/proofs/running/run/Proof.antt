@@ -1,5 +1,5 @@
 -- `session::run` meets its contract: memory of the wrong length is refused at once, and else `carry_all` ensures the rest.
-use mathlib.Core.Path.{refl, ap}
+use mathlib.Core.Path.{ap}
 use borrow.Author.Tests.{eq-eqb, ne-eqb}
 use borrow.Author.Needs.{needs}
 use Rattle.session.specs.Session.{counted, sessionOf, answersOf}
