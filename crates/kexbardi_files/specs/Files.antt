@@ -49,7 +49,7 @@ pub record Printed : Type 0 where
 abbrev pub printed : ℕ → List ℕ → ℕ → Printed
 printed number out size = record { number = number; out = out; length = size }
 
--- by the text: it is never empty where there is room
+-- by the text: it is never empty where there is room (`session/proofs/Drilled.printed-some`)
 abbrev pub printedBy : List ℕ → List ℕ → ℕ → Printed
 printedBy text out size = cond (eqb (length text) 0) (printed 5 out size) (printed 0 (sets out 0 text) (length text))
 

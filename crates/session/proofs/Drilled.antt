@@ -5,7 +5,7 @@ use native.Mathlib.Omega.{arith}
 use mathlib.Core.Path.{_≡_, refl}
 use mathlib.Core.Bool.{Bool, true, false, cond}
 use mathlib.Core.List.{List, [], _∷_}
-use lib.ListN.{length}
+use lib.ListN.{length, length-append}
 use lib.Seq.{set-getD}
 use lib.Dec.{ltb}
 use borrow.Author.Tests.{eq-eqb, le-ltb, ltb-false}
@@ -20,11 +20,11 @@ use Rattle.engine.specs.Records.{resetRecord}
 use Rattle.engine.specs.Refusals.{answerOf}
 use Rattle.engine.specs.Samples.{sampleResult, sampleWords}
 use Rattle.engine.specs.Stores.{storeAnswer, storeWords}
-use Rattle.desk.specs.Calls.{slotOf, recordOf, answerTo, wordsAfter, recordsAfter}
+use Rattle.desk.specs.Calls.{resetWords, resetRecords, slotOf, recordOf, answerTo, wordsAfter, recordsAfter}
 use Rattle.desk.specs.Lists.{Desk, Holds}
 use Rattle.desk.specs.Plain.{startOf}
 use Rattle.desk.proofs.Accuracy.{accurate}
-use Rattle.session.specs.Session.{deskAfter, numberFor, State, begun, after, runOf, sessionOf, turnsOf, deskBehind, printedOf, printedWithin}
+use Rattle.session.specs.Session.{deskAfter, numberFor, State, begun, after, runOf, sessionOf, turnsOf, deskBehind, lastOf, linesOf, tooLong, printedOf, printedWithin}
 
 -- the words and records that some records leave are those of the desk after their turns
 run-turns : (t : State) (xs : List Record) → runOf t xs .desk ≡ deskBehind (t .desk) (turnsOf xs)
@@ -72,3 +72,17 @@ enough false n e = omega (arith, ltb-false 65536 n e)
 pub printed-whole : (file : List ℕ) → printedWithin 655460 file ≡ printedOf file
 unfolding printedWithin
 printed-whole file = rw (le-ltb 655460 _ (enough (ltb 65536 (length file)) (length file) refl))
+
+-- a printed text is never empty: it has a last line
+lines-some : (t : State) (xs : List Record) → 0 < length (linesOf t xs)
+unfolding linesOf lastOf
+lines-some t [] = simp length-append (omega arith)
+lines-some t (x ∷ xs) = simp length-append (omega (arith, lines-some (after t x) xs))
+
+pub printed-some : (file : List ℕ) → 0 < length (printedOf file)
+unfolding printedOf
+printed-some file = go (ltb 65536 (length file))
+  where
+    go : (b : Bool) → 0 < length (cond b tooLong (linesOf (begun resetWords resetRecords) (recordsOf file)))
+    go true = omega arith
+    go false = lines-some (begun resetWords resetRecords) (recordsOf file)
