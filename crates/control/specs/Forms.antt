@@ -1,12 +1,10 @@
 -- Steps 8 and 9: bias and output after a sample, in units.
-use Prim.Native.Nat.{_^_, _≤_}
 use mathlib.Core.Bool.{Bool, cond, not, _&&_}
-use lib.IntN.{ℤ, natAbs, _+ℤ_, _-ℤ_}
+use lib.IntN.{ℤ, _+ℤ_, _-ℤ_}
 use lib.Signed.{ltZ}
 use Rattle.numbers.specs.Limits.{clampℤ}
 use Rattle.control.specs.declared.terms.Terms.{Terms}
 use Rattle.control.specs.declared.forms.Drive.{Drive}
-use Rattle.control.specs.Terms.{Small}
 pub mod Laws
 
 -- "Outside, with freeze it stays, else it becomes output − (P − D)": `base` is P − D
@@ -26,11 +24,3 @@ positionOf freeze drive t low high =
 -- Step 9. "the carried output grows by P …, plus I, less D …, and is brought to the nearer limit"
 unfoldable pub velocityOf : Drive → Terms → ℤ → ℤ → Drive
 velocityOf drive t low high = record { bias = drive .bias; output = clampℤ (((drive .output +ℤ t .p) +ℤ t .i) -ℤ t .d) low high }
-
--- numbers of which no sum leaves 64 bits
-pub record Ready (drive : Drive) (t : Terms) (lo hi : ℤ) : Type 0 where
-  pub bias : natAbs (drive .bias) ≤ 2 ^ 52
-  pub output : natAbs (drive .output) ≤ 2 ^ 34
-  pub terms : Small t
-  pub low : natAbs lo ≤ 2 ^ 34
-  pub high : natAbs hi ≤ 2 ^ 34

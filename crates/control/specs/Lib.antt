@@ -2,3 +2,4 @@
 pub mod Errors
 pub mod Terms
 pub mod Forms
+pub mod Premises

@@ -1,8 +1,8 @@
 -- Step 7: the terms, first exact, as fractions of a count, and then rounded to the nearest unit. Settings are in hundredths.
-use Prim.Native.Nat.{ℕ, _*_, _^_, _≤_, _<_}
+use Prim.Native.Nat.{ℕ, _*_}
 use mathlib.Core.Bool.{Bool, cond}
 use lib.Dec.{eqb}
-use lib.IntN.{ℤ, pos, negℤ, natAbs, _*ℤ_}
+use lib.IntN.{ℤ, pos, negℤ, _*ℤ_}
 use Rattle.numbers.specs.Fractions.{Fraction, over, whole, negᶠ, roundTo}
 use Rattle.table.specs.declared.settings.Tuning.{Tuning}
 use Rattle.control.specs.declared.terms.Inputs.{Inputs}
@@ -53,23 +53,3 @@ unfoldable pub termsOf : Tuning → Bool → Bool → Inputs → Terms
 termsOf t minutes reverse x =
     let exact = exactTerms t minutes reverse x in
     record { p = roundTo 262144 (exact .p); i = roundTo 262144 (exact .i); d = roundTo 262144 (exact .d) }
-
--- ---- what an accepted sample's settings, inputs and terms are known to be
-
-pub record Tuned (t : Tuning) : Type 0 where
-  pub period : t .period ≤ 9999
-  pub gain : t .gain ≤ 9999
-  pub reset : t .reset ≤ 9999
-  pub rate : t .rate ≤ 9999
-  pub sampling : 5 ≤ t .period
-  pub resetting : 0 < t .reset
-
-pub record Bounded (x : Inputs) : Type 0 where
-  pub p : natAbs (x .p) ≤ 131070
-  pub i : natAbs (x .i) ≤ 65535
-  pub d : natAbs (x .d) ≤ 131070
-
-pub record Small (t : Terms) : Type 0 where
-  pub p : natAbs (t .p) ≤ 2 ^ 42
-  pub i : natAbs (t .i) ≤ 2 ^ 54
-  pub d : natAbs (t .d) ≤ 2 ^ 53

@@ -3,7 +3,8 @@ use crate::terms::Terms;
 ghost use mathlib.Core.Path.{_≡_};
 ghost use Prim.Native.Nat.{_^_, _≤_};
 ghost use lib.IntN.{natAbs};
-ghost use Rattle.control.specs.Forms.{outsideOf, positionOf, velocityOf, Ready};
+ghost use Rattle.control.specs.Forms.{outsideOf, positionOf, velocityOf};
+ghost use Rattle.control.specs.Premises.{Ready};
 
 // The carried bias and output, in units.
 pub struct Drive {

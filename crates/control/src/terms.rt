@@ -5,7 +5,8 @@ ghost use mathlib.Core.Bool.{false, cond};
 ghost use Prim.Native.Nat.{_*_, _^_, _≤_, _<_};
 ghost use lib.IntN.{pos, natAbs, _*ℤ_};
 ghost use Rattle.numbers.specs.Fractions.{over, roundTo};
-ghost use Rattle.control.specs.Terms.{factorOf, exactP, exactI, exactD, negated, termsOf, Tuned, Bounded, Small};
+ghost use Rattle.control.specs.Terms.{factorOf, exactP, exactI, exactD, negated, termsOf};
+ghost use Rattle.control.specs.Premises.{Tuned, Bounded, Small};
 
 // What each term acts on: in position form the error, the error and the PV's change; in velocity
 // form their differences from the sample before, but for the integral.

@@ -1,4 +1,4 @@
--- Demand 3, what it says of two lists, and what a call leaves alone.
-pub mod Kept
+-- What a cleared buffer keeps; demand 3 of a list of calls; and a list computed.
+pub mod Clearing
 pub mod Accuracy
 pub mod Examples

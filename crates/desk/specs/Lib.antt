@@ -1,5 +1,3 @@
--- Sixteen loops: a call carried out on the words and the records; the plain loop of demand 3; and the claim about lists of calls.
-pub mod Calls
-pub mod Exact
-pub mod Plain
+-- The desk: each call's answer and what it leaves; and lists of calls with the plain loop beside them.
+pub mod Desk
 pub mod Lists

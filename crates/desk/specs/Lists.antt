@@ -1,6 +1,4 @@
--- Demand 3: one claim about a whole list of calls. Document 01: "The list starts from any words and any sixteen carried records. Stores and samples
--- of all loops stand in it in any order … Each call gets the words and its loop's carried record as the calls before left them, save for any words
--- that the buyer writes between calls".
+-- Lists of calls on a desk, and demand 3's claim about each: the plain loop is fed beside the desk.
 use Prim.Native.Nat.{ℕ, _+_, _≤_, _<_}
 use mathlib.Core.Path.{_≡_}
 use mathlib.Core.Bool.{cond}
@@ -9,61 +7,70 @@ use lib.Dec.{eqb}
 use lib.IntN.{pos}
 use lib.ListN.{getD}
 use Rattle.numbers.specs.Fractions.{whole, Near}
+use Rattle.refusals.specs.declared.Answer.{Answer}
+use Rattle.refusals.specs.declared.Answer.the-variants.{Accepted, Refused}
 use Rattle.table.specs.Words.{baseOf}
-use Rattle.table.specs.Settings.{readingOf}
-use Rattle.engine.specs.declared.record.Carried.{Carried}
-use Rattle.engine.specs.declared.refusal.Answer.{Answer}
-use Rattle.engine.specs.declared.refusal.Answer.the-variants.{Accepted, Refused}
-use Rattle.desk.specs.declared.Call.{Call}
-use Rattle.desk.specs.declared.Call.the-variants.{Store, Sample}
-use Rattle.desk.specs.Calls.{answerTo, wordsAfter, recordsAfter}
-use Rattle.desk.specs.Plain.{Plain, plainAfter, tolerance}
+use Rattle.table.specs.Reading.{readingOf}
+use Rattle.carried.specs.Layout.{recordAt}
+use Rattle.plain.specs.Plain.{Plain, begun, plainAfter, tolerance}
+use Rattle.desk.specs.Desk.{Desk, resetAnswer, resetLeft, storeAnswer, storeLeft, sampleAnswer, sampleLeft}
+pub mod Laws
 
--- the words and the sixteen records
-pub record Desk : Type 0 where
-  pub words : List ℕ
-  pub records : List Carried
+-- a reset; a value stored at an address; a sample of a loop with a raw PV
+pub data Call : Type 0 where
+  reset : Call
+  store : ℕ → ℕ → Call
+  sample : ℕ → ℕ → Call
 
--- a turn: what the buyer writes into the words, and then a call
-pub record Turn : Type 0 where
-  pub outside : List ℕ → List ℕ
-  pub call : Call
+unfoldable pub answerTo : Desk → Call → Answer
+answerTo d reset = resetAnswer d
+answerTo d (store address value) = storeAnswer d address
+answerTo d (sample k raw) = sampleAnswer d k raw
 
--- the desk as the call finds it, and after the call
-abbrev pub found : Desk → Turn → Desk
-found d t = record { words = t .outside (d .words); records = d .records }
+unfoldable pub deskAfter : Desk → Call → Desk
+deskAfter d reset = resetLeft d
+deskAfter d (store address value) = storeLeft d address value
+deskAfter d (sample k raw) = sampleLeft d k raw
 
-abbrev pub left : Desk → Call → Desk
-left d call = record { words = wordsAfter (d .words) (d .records) call; records = recordsAfter (d .words) (d .records) call }
+-- the desk after a list of calls, nothing being written between
+unfoldable pub deskBehind : Desk → List Call → Desk
+deskBehind d [] = d
+deskBehind d (call ∷ calls) = deskBehind (deskAfter d call) calls
 
--- The plain loop of loop k: "It is fed the calls, whether each was accepted, and the words as they stood before each sample. Every call but an
--- accepted sample leaves it alone."
-abbrev pub fedBy : ℕ → Plain → List ℕ → Answer → Call → Plain
-fedBy k q words (Refused why) call = q
-fedBy k q words Accepted (Store address value) = q
-fedBy k q words Accepted (Sample j raw) = cond (eqb j k) (plainAfter q (readingOf words (baseOf k) (q .mode)) raw) q
+-- ---- the plain loop of loop k beside the desk
+
+-- only an accepted sample of loop k moves it, by the words as they stood before the sample; a reset begins it anew
+abbrev pub fedBy : ℕ → Plain → Desk → Answer → Call → Plain
+fedBy k q d (Refused why) call = q
+fedBy k q d Accepted reset = begun (recordAt (deskAfter d reset .numbers) k)
+fedBy k q d Accepted (store address value) = q
+fedBy k q d Accepted (sample j raw) = cond (eqb j k) (plainAfter q (readingOf (d .words) k (q .state .mode)) raw) q
 
 unfoldable pub fed : ℕ → Plain → Desk → Call → Plain
-fed k q d call = fedBy k q (d .words) (answerTo (d .words) (d .records) call) call
+fed k q d call = fedBy k q d (answerTo d call) call
 
--- what is claimed of an output word between the limits that its sample read, with the plain loop after that sample
+unfoldable pub plainBehind : ℕ → Plain → Desk → List Call → Plain
+plainBehind k q d [] = q
+plainBehind k q d (call ∷ calls) = plainBehind k (fed k q d call) (deskAfter d call) calls
+
+-- ---- the claim
+
+-- an output word between the limits that its sample read and, where n is above 0, near the exact output
 pub record Accurate (lo hi word : ℕ) (q : Plain) : Type 0 where
   pub low : lo ≤ word
   pub high : word ≤ hi
-  pub near : 0 < q .count → Near (tolerance (q .count)) (whole (pos word)) (q .output)
+  pub near : 0 < q .n → Near (tolerance (q .n)) (whole (pos word)) (q .output)
 
--- the claim of one call on a desk: an accepted sample of loop k is accurate. Words 24 and 25 are its limits, word 5 its output
+-- of one call, q being the plain loop after it: an accepted sample of loop k is accurate. Words 24 and 25 are its limits, word 5 its output
 unfoldable pub Claim : ℕ → Desk → Plain → Call → Type 0
-Claim k d q (Store address value) = Unit {0}
-Claim k d q (Sample j raw) =
-    j ≡ k → answerTo (d .words) (d .records) (Sample j raw) ≡ Accepted
+Claim k d q reset = Unit {0}
+Claim k d q (store address value) = Unit {0}
+Claim k d q (sample j raw) =
+    j ≡ k → answerTo d (sample j raw) ≡ Accepted
     → let base = baseOf k in
-    Accurate (getD (d .words) (base + 24) 0) (getD (d .words) (base + 25) 0) (getD (left d (Sample j raw) .words) (base + 5) 0) q
+    Accurate (getD (d .words) (base + 24) 0) (getD (d .words) (base + 25) 0) (getD (deskAfter d (sample j raw) .words) (base + 5) 0) q
 
 -- and of every call of a list
-unfoldable pub Holds : ℕ → Desk → Plain → List Turn → Type 0
-Holds k d q [] = Unit {0}
-Holds k d q (t ∷ ts) =
-    let before = found d t in
-    let q′ = fed k q before (t .call) in
-    Claim k before q′ (t .call) × Holds k (left before (t .call)) q′ ts
+unfoldable pub Holds : ℕ → Plain → Desk → List Call → Type 0
+Holds k q d [] = Unit {0}
+Holds k q d (call ∷ calls) = let q′ = fed k q d call in Claim k d q′ call × Holds k q′ (deskAfter d call) calls

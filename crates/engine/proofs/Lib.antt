@@ -1,6 +1,3 @@
--- Theorems about a sample, beside its contract. Each is about the definitions that the contract of `sample` cites.
-pub mod Starred
-pub mod Written
-pub mod Closed
+-- Theorems about an accepted sample: its output word, and the starred cases.
 pub mod Limits
-pub mod Local
+pub mod Starred

@@ -7,21 +7,27 @@ use Rattle.numbers.specs.Limits.{clampBy}
 use Rattle.numbers.specs.Rounding.{halfUp, halfAway}
 use Rattle.numbers.specs.Roots.{rootWithin, rootOf}
 use Rattle.numbers.specs.Fractions.{over, negᶠ, roundTo}
+use Rattle.refusals.specs.declared.Answer.{Answer}
+use Rattle.refusals.specs.declared.Answer.the-variants.{Accepted, Refused}
+use Rattle.refusals.specs.Refusals.{firstOf}
+use Rattle.table.specs.declared.reading.Reading.{Reading}
 use Rattle.table.specs.Words.{bcd, badDigit}
-use Rattle.table.specs.Modes.{modeAfter}
-use Rattle.table.specs.Settings.{mode2Of, badDigits, tuningOf, settingsOf, remoteOf, readingOf}
+use Rattle.table.specs.Settings.{mode2Of, badDigits, tuningOf, settingsOf}
+use Rattle.table.specs.Reading.{modeAfter, remoteOf, readingOf}
 use Rattle.control.specs.Errors.{squaredOver, errorOf}
 use Rattle.control.specs.Terms.{exactP, exactI, exactD, exactTerms, termsOf}
 use Rattle.control.specs.Forms.{outsideOf, positionOf, velocityOf}
 use Rattle.alarms.specs.Status.{apart, levelsOf, statusOf}
-use Rattle.engine.specs.declared.record.Carried.{Carried}
-use Rattle.engine.specs.Records.{resetRecord, badRecord}
-use Rattle.engine.specs.Refusals.{badSetting, answerOf}
-use Rattle.engine.specs.Steps.{pvOf, setpointOf, entering, heldOf, startOf, targetOf, errorIn, sensedOf, pastOf, positionInputs, velocityInputs, termsIn, movedPosition, movedVelocity, movedOf, drivenOf, outputWord, biasWord, statusWord, writtenOf, nextOf, stepOf}
-use Rattle.engine.specs.Samples.{writtenTo, sampleResult, sampleWords}
+use Rattle.carried.specs.declared.record.Carried.{Carried}
+use Rattle.carried.specs.Layout.{resetRecord}
+use Rattle.judging.specs.Judging.{readingCases}
+use Rattle.engine.specs.Sensing.{pvOf, setpointOf, entering, targetOf, errorIn, sensedOf}
+use Rattle.engine.specs.Driving.{heldOf, startOf, pastOf, positionInputs, velocityInputs, termsIn, movedPosition, movedVelocity, movedOf, drivenOf}
+use Rattle.engine.specs.Writing.{outputWord, biasWord, statusWord, writtenOf, nextOf, writtenTo}
+use Rattle.engine.specs.Steps.{stepOf}
 
 -- a word stored, or a sample of loop 1
-data Call : Type 0 where
+pub data Call : Type 0 where
   store : ℕ → ℕ → Call
   sample : ℕ → Call
 
@@ -30,12 +36,16 @@ record Loop : Type 0 where
   words : List ℕ
   carried : Carried
 
+-- a sample is judged by what it reads, and stepped where it is accepted
+sampled : Answer → Loop → Reading → ℕ → Loop
+sampled (Refused why) l r raw = l
+sampled Accepted l r raw =
+    let s = stepOf r (l .carried) raw in
+    record { words = writtenTo (l .words) 0 (s .written); carried = s .carried }
+
 after : Loop → Call → Loop
 after l (store address value) = record { words = set (l .words) address value; carried = l .carried }
-after l (sample raw) = record {
-  words = sampleWords (l .words) (l .carried) 1 raw;
-  carried = sampleResult (l .words) (l .carried) 1 raw .carried;
-}
+after l (sample raw) = let r = readingOf (l .words) 1 (l .carried .state .mode) in sampled (firstOf (readingCases r raw)) l r raw
 
 run : Loop → List Call → Loop
 run l [] = l
@@ -59,10 +69,10 @@ back : List Call
 back = sample 1500 ∷ []
 
 -- what the words at some offsets are to be
-record Case : Type 0 where
-  calls : List Call
-  offsets : List ℕ
-  answers : List ℕ
+pub record Case : Type 0 where
+  pub calls : List Call
+  pub offsets : List ℕ
+  pub answers : List ℕ
 
 infix 20 _gives_at_
 _gives_at_ : List Call → List ℕ → List ℕ → Case
@@ -70,7 +80,7 @@ calls gives answers at offsets = record { calls = calls; offsets = offsets; answ
 
 -- offsets: 2 setpoint, 3 PV, 4 bias, 5 output, 6 status. Mode 1 in the place of the automatic request: 16 reverse, 128 squared, 256 deadband,
 -- 1024 freeze; 34 is that request with velocity form.
-starred : List Case
+pub starred : List Case
 starred =
     (begun 2 gives (1000 ∷ 1000 ∷ 2000 ∷ 2 ∷ []) at (2 ∷ 3 ∷ 5 ∷ 6 ∷ []))
     ∷ ((begun 2 ++ line9) gives (1500 ∷ 1000 ∷ 2100 ∷ 3100 ∷ 2 ∷ []) at (2 ∷ 3 ∷ 4 ∷ 5 ∷ 6 ∷ []))
@@ -87,10 +97,10 @@ starred =
     ∷ ((begun 2 ++ (store 10 256 ∷ store 2 1500 ∷ sample 1010 ∷ [])) gives (3058 ∷ []) at (5 ∷ []))
     ∷ []
 
-given : Case → List ℕ
+pub given : Case → List ℕ
 given x = let words = run reset (x .calls) .words in map (λ (i : ℕ). getD words i 0) (x .offsets)
 
 -- each of the thirteen cases gives the paper's numbers
-all-starred : map given starred ≡ map (λ x. x .answers) starred
-unfolding clampBy halfUp halfAway rootWithin rootOf over negᶠ roundTo bcd badDigit modeAfter mode2Of badDigits tuningOf settingsOf remoteOf readingOf squaredOver errorOf exactP exactI exactD exactTerms termsOf outsideOf positionOf velocityOf apart levelsOf statusOf resetRecord badRecord badSetting answerOf pvOf setpointOf entering heldOf startOf targetOf errorIn sensedOf pastOf positionInputs velocityInputs termsIn movedPosition movedVelocity movedOf drivenOf outputWord biasWord statusWord writtenOf nextOf stepOf writtenTo sampleResult sampleWords after run reset begun line9 low back _gives_at_ starred given
+pub all-starred : map given starred ≡ map (λ x. x .answers) starred
+unfolding clampBy halfUp halfAway rootWithin rootOf over negᶠ roundTo bcd badDigit modeAfter mode2Of badDigits tuningOf settingsOf remoteOf readingOf squaredOver errorOf exactP exactI exactD exactTerms termsOf outsideOf positionOf velocityOf apart levelsOf statusOf resetRecord pvOf setpointOf entering heldOf startOf targetOf errorIn sensedOf pastOf positionInputs velocityInputs termsIn movedPosition movedVelocity movedOf drivenOf outputWord biasWord statusWord writtenOf nextOf stepOf writtenTo sampled after run reset begun line9 low back _gives_at_ starred given
 all-starred = refl

@@ -1,6 +1,6 @@
--- Document 01 from "Carried record" to "One accepted sample": the record, the refusals in their order, the eleven steps, a sample whole; and stores.
-pub mod Records
-pub mod Refusals
+-- One accepted sample, document 01's steps 1 to 11: what is sensed, what drives the valve, what is written, and the sample whole.
+pub mod Sensing
+pub mod Driving
+pub mod Writing
 pub mod Steps
-pub mod Samples
-pub mod Stores
+pub mod Premises

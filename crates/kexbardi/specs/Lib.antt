@@ -1,2 +1,2 @@
--- What the contracts of this crate cite.
+-- What the exported functions leave beside the desk; their answers and the desk are the desk's own definitions.
 pub mod Interface

@@ -1,2 +1,2 @@
--- What the contracts of this crate cite.
+-- What the exported functions on drill files answer and leave beside the desk.
 pub mod Files

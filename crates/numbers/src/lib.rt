@@ -19,3 +19,4 @@ pub use rounding::units;
 pub use signed::difference;
 pub use signed::magnitude;
 pub use signed::with_sign;
+pub use signed::word_of;

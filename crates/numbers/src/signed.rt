@@ -21,6 +21,14 @@ pub(crate) fn to_unsigned(z: i64) -> u64
     z as u64
 }
 
+// A signed number that is a word.
+pub fn word_of(z: i64) -> u16
+    requires { ⌜ (pos 0 ≤ℤ z) × (z ≤ℤ pos 65535) ⌝ }
+    ensures { λ r. ⌜ r ≡ natAbs z ⌝ }
+{
+    to_unsigned(z) as u16
+}
+
 // |z|. The least number has no negation in 64 bits, so what is negated is z + 1.
 pub fn magnitude(z: i64) -> u64
     ensures { λ r. ⌜ r ≡ natAbs z ⌝ }

@@ -2,7 +2,7 @@
 use Prim.Native.Nat.{ℕ}
 use mathlib.Core.Path.{_≡_, refl}
 use mathlib.Core.List.{List, [], _∷_, map, flatten}
-use Rattle.reader.specs.declared.Fault.the-variants.{Cut, Kind, Length}
+use Rattle.refusals.specs.declared.Refusal.the-variants.{Cut, Kind, Length}
 use Rattle.reader.specs.declared.Record.{Record}
 use Rattle.reader.specs.declared.Record.the-variants.{Store, Sample, Refused}
 use Rattle.reader.specs.File.{recordAt, positionsWithin, positionsFrom, recordsFrom, recordsOf, spansFrom, spansOf}

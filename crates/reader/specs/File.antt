@@ -6,18 +6,11 @@ use mathlib.Core.List.{List, [], _∷_, map}
 use lib.ListN.{length, getD}
 use lib.Seq.{slice}
 use lib.Dec.{ltb, eqb}
-use Rattle.reader.specs.declared.Fault.{Fault}
-use Rattle.reader.specs.declared.Fault.the-variants.{Cut, Kind, Length}
+use Rattle.refusals.specs.declared.Refusal.the-variants.{Cut, Kind, Length}
 use Rattle.reader.specs.declared.Record.{Record}
 use Rattle.reader.specs.declared.Record.the-variants.{Store, Sample, Refused}
 use Rattle.reader.specs.declared.Step.{Step}
 pub mod Laws
-
--- the table's number of each refusal
-abbrev pub numberOfFault : Fault → ℕ
-numberOfFault Cut = 1
-numberOfFault Kind = 2
-numberOfFault Length = 3
 
 -- "two bytes, little-endian"
 abbrev pub wordAt : List ℕ → ℕ → ℕ

@@ -2,41 +2,23 @@
 //
 // A file is any list of bytes. Each record is its length, which counts what follows it, its kind
 // and its body. A reader starts at position 0 and goes on at `next` until the end of the file.
+use refusals::Refusal;
 ghost use mathlib.Core.Path.{_≡_};
 ghost use Prim.Native.Nat.{_+_, _*_, _-_, _≤_};
 ghost use lib.ListN.{length};
-ghost use Rattle.reader.specs.File.{numberOfFault, wordAt, storeAt, sampleAt, wholeAt, recordAt};
-
-// Why a record is refused: the file ends inside it; it has no kind, or none that is known; its
-// length is not its kind's.
-pub enum Fault {
-    Cut,
-    Kind,
-    Length,
-}
+ghost use Rattle.reader.specs.File.{wordAt, storeAt, sampleAt, wholeAt, recordAt};
 
 // A store of an address and a value, a sample of a loop and a raw PV, or a refusal.
 pub enum Record {
     Store(u16, u16),
     Sample(u8, u16),
-    Refused(Fault),
+    Refused(Refusal),
 }
 
 // A record, and the position behind it.
 pub struct Step {
     pub item: Record,
     pub next: usize,
-}
-
-// The number of document 01's table.
-pub fn fault_number(f: Fault) -> u8
-    ensures { λ r. ⌜ r ≡ numberOfFault f ⌝ }
-{
-    match f {
-        Fault::Cut => 1,
-        Fault::Kind => 2,
-        Fault::Length => 3,
-    }
 }
 
 // Two bytes as a word.
@@ -76,24 +58,24 @@ fn whole(file: &[u8], at: usize, n: usize) -> Record
     ensures { λ r. ⌜ r ≡ wholeAt (now (file .entry)) at n ⌝ }
 {
     if n < 2 {
-        return Record::Refused(Fault::Kind);
+        return Record::Refused(Refusal::Kind);
     }
     match word(file, at) {
         1 => {
             if n == 6 {
                 store(file, at)
             } else {
-                Record::Refused(Fault::Length)
+                Record::Refused(Refusal::Length)
             }
         }
         2 => {
             if n == 5 {
                 sample(file, at)
             } else {
-                Record::Refused(Fault::Length)
+                Record::Refused(Refusal::Length)
             }
         }
-        _ => Record::Refused(Fault::Kind),
+        _ => Record::Refused(Refusal::Kind),
     }
 }
 
@@ -120,7 +102,7 @@ pub fn read_record(file: &[u8], at: usize) -> Step
         }
     }
     Step {
-        item: Record::Refused(Fault::Cut),
+        item: Record::Refused(Refusal::Cut),
         next: file.len(),
     }
 }

@@ -1,5 +1,3 @@
--- What the loops keep, the room for lines, the worked loop, and demands 1 and 3 of drill files.
+-- What a session's loops keep; and the worked loop's lines, computed.
 pub mod Loops
-pub mod Widths
 pub mod Worked
-pub mod Drilled

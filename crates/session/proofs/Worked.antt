@@ -1,30 +1,31 @@
--- The worked loop of document 01: what the program prints of its file, computed of the definitions.
+-- The worked loop of document 01: what the program prints of its ten records, computed of the definitions.
 use Prim.Native.Nat.{ℕ}
 use mathlib.Core.Path.{_≡_, refl}
-use mathlib.Core.List.{List, [], _∷_}
+use mathlib.Core.List.{List, [], _∷_, _++_, flatten}
 use Rattle.numbers.specs.Limits.{clampBy}
 use Rattle.numbers.specs.Rounding.{halfUp, halfAway}
 use Rattle.numbers.specs.Roots.{rootWithin, rootOf}
 use Rattle.numbers.specs.Fractions.{over, negᶠ, roundTo}
-use Rattle.text.specs.Text.{digitsWithin, decimalOf}
+use Rattle.text.specs.Text.{bytes, digitsWithin, decimalOf}
 use Rattle.reader.specs.File.{recordAt, positionsWithin, positionsFrom, recordsFrom}
 use Rattle.table.specs.Words.{bcd, badDigit}
-use Rattle.table.specs.Modes.{modeAfter}
-use Rattle.table.specs.Settings.{mode2Of, badDigits, tuningOf, settingsOf, remoteOf, readingOf}
+use Rattle.table.specs.Settings.{mode2Of, badDigits, tuningOf, settingsOf}
+use Rattle.table.specs.Reading.{modeAfter, remoteOf, readingOf}
 use Rattle.control.specs.Errors.{squaredOver, errorOf}
 use Rattle.control.specs.Terms.{exactP, exactI, exactD, exactTerms, termsOf}
 use Rattle.control.specs.Forms.{outsideOf, positionOf, velocityOf}
 use Rattle.alarms.specs.Status.{apart, levelsOf, statusOf}
-use Rattle.engine.specs.Records.{resetRecord, badRecord}
-use Rattle.engine.specs.Refusals.{badSetting, answerOf}
-use Rattle.engine.specs.Steps.{pvOf, setpointOf, entering, heldOf, startOf, targetOf, errorIn, sensedOf, pastOf, positionInputs, velocityInputs, termsIn, movedPosition, movedVelocity, movedOf, drivenOf, outputWord, biasWord, statusWord, writtenOf, nextOf, stepOf}
-use Rattle.engine.specs.Samples.{writtenTo, sampleResult, sampleWords}
-use Rattle.engine.specs.Stores.{storeAnswer, storeWords}
-use Rattle.desk.specs.Calls.{answerTo, wordsAfter, recordsAfter}
-use Rattle.session.specs.Session.{lineOf, lastOf, linesOf, printedOf}
+use Rattle.carried.specs.Layout.{resetRecord, outOfRange, numbersOf, recordFrom}
+use Rattle.engine.specs.Sensing.{pvOf, setpointOf, entering, targetOf, errorIn, sensedOf}
+use Rattle.engine.specs.Driving.{heldOf, startOf, pastOf, positionInputs, velocityInputs, termsIn, movedPosition, movedVelocity, movedOf, drivenOf}
+use Rattle.engine.specs.Writing.{outputWord, biasWord, statusWord, writtenOf, nextOf, writtenTo}
+use Rattle.engine.specs.Steps.{stepOf}
+use Rattle.desk.specs.Desk.{fittingOf, resetDesk, resetAnswer, resetLeft, storeAnswer, storeLeft, sampleDone, sampleAnswer, sampleLeft}
+use Rattle.desk.specs.Lists.{answerTo, deskAfter}
+use Rattle.lines.specs.Lines.{lineText, lastText}
+use Rattle.session.specs.Printed.{linesOf, printedOf}
 
--- ten records
-file : List ℕ
+pub file : List ℕ
 file =
     6 ∷ 0 ∷ 1 ∷ 0 ∷ 5 ∷ 0 ∷ 208 ∷ 7
     ∷ 6 ∷ 0 ∷ 1 ∷ 0 ∷ 25 ∷ 0 ∷ 255 ∷ 15
@@ -38,24 +39,12 @@ file =
     ∷ 5 ∷ 0 ∷ 2 ∷ 0 ∷ 17 ∷ 0 ∷ 0
     ∷ []
 
--- ten lines and the last one
-text : List ℕ
+pub text : List ℕ
 text =
-    49 ∷ 32 ∷ 115 ∷ 101 ∷ 116 ∷ 32 ∷ 53 ∷ 32 ∷ 50 ∷ 48 ∷ 48 ∷ 48 ∷ 10
-    ∷ 50 ∷ 32 ∷ 115 ∷ 101 ∷ 116 ∷ 32 ∷ 50 ∷ 53 ∷ 32 ∷ 52 ∷ 48 ∷ 57 ∷ 53 ∷ 10
-    ∷ 51 ∷ 32 ∷ 115 ∷ 101 ∷ 116 ∷ 32 ∷ 55 ∷ 32 ∷ 50 ∷ 53 ∷ 54 ∷ 10
-    ∷ 52 ∷ 32 ∷ 115 ∷ 101 ∷ 116 ∷ 32 ∷ 56 ∷ 32 ∷ 53 ∷ 49 ∷ 50 ∷ 10
-    ∷ 53 ∷ 32 ∷ 115 ∷ 101 ∷ 116 ∷ 32 ∷ 57 ∷ 32 ∷ 52 ∷ 48 ∷ 57 ∷ 54 ∷ 10
-    ∷ 54 ∷ 32 ∷ 115 ∷ 101 ∷ 116 ∷ 32 ∷ 48 ∷ 32 ∷ 50 ∷ 10
-    ∷ 55 ∷ 32 ∷ 108 ∷ 111 ∷ 111 ∷ 112 ∷ 32 ∷ 49 ∷ 32 ∷ 115 ∷ 112 ∷ 32 ∷ 49 ∷ 48 ∷ 48 ∷ 48 ∷ 32 ∷ 112 ∷ 118 ∷ 32 ∷ 49 ∷ 48
-    ∷ 48 ∷ 48 ∷ 32 ∷ 111 ∷ 117 ∷ 116 ∷ 32 ∷ 50 ∷ 48 ∷ 48 ∷ 48 ∷ 32 ∷ 119 ∷ 111 ∷ 114 ∷ 100 ∷ 32 ∷ 48 ∷ 48 ∷ 48 ∷ 50 ∷ 10
-    ∷ 56 ∷ 32 ∷ 115 ∷ 101 ∷ 116 ∷ 32 ∷ 50 ∷ 32 ∷ 49 ∷ 53 ∷ 48 ∷ 48 ∷ 10
-    ∷ 57 ∷ 32 ∷ 108 ∷ 111 ∷ 111 ∷ 112 ∷ 32 ∷ 49 ∷ 32 ∷ 115 ∷ 112 ∷ 32 ∷ 49 ∷ 53 ∷ 48 ∷ 48 ∷ 32 ∷ 112 ∷ 118 ∷ 32 ∷ 49 ∷ 48
-    ∷ 48 ∷ 48 ∷ 32 ∷ 111 ∷ 117 ∷ 116 ∷ 32 ∷ 51 ∷ 49 ∷ 48 ∷ 48 ∷ 32 ∷ 119 ∷ 111 ∷ 114 ∷ 100 ∷ 32 ∷ 48 ∷ 48 ∷ 48 ∷ 50 ∷ 10
-    ∷ 49 ∷ 48 ∷ 32 ∷ 114 ∷ 101 ∷ 102 ∷ 117 ∷ 115 ∷ 101 ∷ 100 ∷ 32 ∷ 52 ∷ 10
-    ∷ 49 ∷ 48 ∷ 32 ∷ 114 ∷ 101 ∷ 99 ∷ 111 ∷ 114 ∷ 100 ∷ 115 ∷ 44 ∷ 32 ∷ 49 ∷ 32 ∷ 114 ∷ 101 ∷ 102 ∷ 117 ∷ 115 ∷ 101 ∷ 100 ∷ 10
-    ∷ []
+    bytes "1 set 5 2000\n2 set 25 4095\n3 set 7 256\n4 set 8 512\n5 set 9 4096\n6 set 0 2\n"
+    ++ bytes "7 loop 1 sp 1000 pv 1000 out 2000 word 0002\n8 set 2 1500\n9 loop 1 sp 1500 pv 1000 out 3100 word 0002\n"
+    ++ bytes "10 refused 4\n10 records, 1 refused\n"
 
-worked : printedOf file ≡ text
-unfolding clampBy halfUp halfAway rootWithin rootOf over negᶠ roundTo digitsWithin decimalOf recordAt positionsWithin positionsFrom recordsFrom bcd badDigit modeAfter mode2Of badDigits tuningOf settingsOf remoteOf readingOf squaredOver errorOf exactP exactI exactD exactTerms termsOf outsideOf positionOf velocityOf apart levelsOf statusOf resetRecord badRecord badSetting answerOf pvOf setpointOf entering heldOf startOf targetOf errorIn sensedOf pastOf positionInputs velocityInputs termsIn movedPosition movedVelocity movedOf drivenOf outputWord biasWord statusWord writtenOf nextOf stepOf writtenTo sampleResult sampleWords storeAnswer storeWords answerTo wordsAfter recordsAfter lineOf lastOf linesOf printedOf file text
+pub worked : printedOf file ≡ text
+unfolding clampBy halfUp halfAway rootWithin rootOf over negᶠ roundTo digitsWithin decimalOf recordAt positionsWithin positionsFrom recordsFrom bcd badDigit modeAfter mode2Of badDigits tuningOf settingsOf remoteOf readingOf squaredOver errorOf exactP exactI exactD exactTerms termsOf outsideOf positionOf velocityOf apart levelsOf statusOf resetRecord pvOf setpointOf entering heldOf startOf targetOf errorIn sensedOf pastOf positionInputs velocityInputs termsIn movedPosition movedVelocity movedOf drivenOf outputWord biasWord statusWord writtenOf nextOf stepOf writtenTo outOfRange numbersOf recordFrom flatten fittingOf resetDesk resetAnswer resetLeft storeAnswer storeLeft sampleDone sampleAnswer sampleLeft answerTo deskAfter lineText lastText linesOf printedOf file text
 worked = refl

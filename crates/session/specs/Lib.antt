@@ -1,2 +1,3 @@
--- What the contracts of this crate cite.
+-- A drill file carried out on a desk; and what is printed of it.
 pub mod Session
+pub mod Printed

@@ -1,6 +1,4 @@
-// A drill file carried out on the lent words and the sixteen carried records, and what the program
-// prints of it.
-mod line;
+// A drill file carried out on a desk, record by record, and what the program `drill` prints of it.
 mod printing;
 mod running;
 mod turn;
@@ -9,5 +7,4 @@ pub use printing::drill;
 pub use printing::input_buffer;
 pub use printing::output_buffer;
 pub use running::Ended;
-pub use running::Ran;
 pub use running::run;

@@ -1,25 +1,27 @@
 // What the program prints of its input.
-use crate::line::put_last;
-use crate::line::put_line;
 use crate::turn::act;
-use crate::turn::refusals;
-use crate::turn::slot_for;
-use engine::Carried;
+use crate::turn::refusals_in;
+use crate::turn::shown;
+use lines::put_last;
+use lines::put_line;
 ghost use mathlib.Core.Path.{_≡_};
 ghost use Prim.Native.Nat.{_+_, _*_, _≤_};
 ghost use lib.ListN.{length, take, replicate};
 ghost use Rattle.text.specs.Text.{Written};
 ghost use Rattle.reader.specs.File.{recordsOf};
-ghost use Rattle.session.specs.Session.{begun, linesOf, tooLong, withRoom, printedWithin};
+ghost use Rattle.desk.specs.Desk.{lent};
+ghost use Rattle.session.specs.Session.{begun};
+ghost use Rattle.session.specs.Printed.{linesOf, tooLong, withRoom, printedWithin};
+
+const LONGEST: usize = 65536; // bytes of a file
 
 // Every record of a file in turn, with its line, and the last line: from the start of `out`. Answers
 // how many bytes these are: at most ten for each byte of the file, and a last line.
-fn transcript(file: &[u8], words: &mut [u16], records: [Carried; 16], out: &mut [u8]) -> usize
+fn transcript(file: &[u8], words: &mut [u16], numbers: &mut [i64], out: &mut [u8]) -> usize
     requires { ⌜ (length (now file) ≤ 65536) × (10 * length (now file) + 100 ≤ length (now out)) ⌝ }
-    ensures { λ r. ⌜ Written (now (out .entry)) 0 (linesOf (begun (now (words .entry)) records) (recordsOf (now (file .entry)))) (now (out .exit)) r ⌝ }
+    ensures { λ r. ⌜ Written (now (out .entry)) 0 (linesOf (begun (lent (now (words .entry)) (now (numbers .entry)))) (recordsOf (now (file .entry)))) (now (out .exit)) r ⌝ }
     ensures { λ r. ⌜ r ≤ 10 * length (now (file .entry)) + 100 ⌝ }
 {
-    let mut kept = records;
     let mut count = 0;
     let mut refused = 0;
     let mut at = 0;
@@ -27,14 +29,11 @@ fn transcript(file: &[u8], words: &mut [u16], records: [Carried; 16], out: &mut 
     while at < file.len() {
         let step = reader::read_record(file, at);
         let item = step.item;
-        let slot = slot_for(item);
-        let carried = kept[slot];
-        let done = act(item, words, carried);
-        let next = done.carried;
-        kept[slot] = next;
+        let number = act(item, words, numbers);
+        let line = shown(item, words);
         count += 1;
-        refused += refusals(done.number);
-        place = put_line(out, place, count, item, done.number, words);
+        refused += refusals_in(number);
+        place = put_line(out, place, count, item, number, line);
         at = step.next;
     }
     put_last(out, place, count, refused)
@@ -58,15 +57,16 @@ pub fn drill(input: &[u8], out: &mut [u8]) -> usize
     ensures room { λ r. ⌜ (r ≤ length (now (out .exit))) × (r ≡ length (take r (now (out .exit)))) ⌝ }
     ensures rest { λ r. ⌜ Written (now (out .entry)) 0 (printedWithin (length (now (out .entry))) (now (input .entry))) (now (out .exit)) r ⌝ }
 {
-    if 65536 < input.len() {
+    if LONGEST < input.len() {
         return put_too_long(out);
     }
     if out.len() < 10 * input.len() + 100 {
         return 0;
     }
-    let mut words = desk::reset_words();
-    let records = desk::reset_records();
-    transcript(input, &mut words, records, out)
+    let mut words = [0u16; 1024];
+    let mut numbers = [0i64; 128];
+    desk::reset(&mut words, &mut numbers);
+    transcript(input, &mut words, &mut numbers, out)
 }
 
 // Room for an input of 65,536 bytes and one more, by which a longer one is known.

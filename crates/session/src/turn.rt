@@ -1,56 +1,37 @@
-// One record of a drill file carried out with the carried record of its loop alone.
-use engine::Carried;
+// One record of a drill file carried out on the desk.
 use reader::Record;
+use refusals::Answer;
+use refusals::number_of;
 ghost use mathlib.Core.Path.{_≡_};
-ghost use Prim.Native.Nat.{_<_};
-ghost use Rattle.session.specs.Session.{countOf, slotFor, done, actOf};
+ghost use Rattle.desk.specs.Desk.{lent};
+ghost use Rattle.session.specs.Session.{numberFor, leftFor, countOf, shownFor};
 
-// The number of refusal, 0 where the record was carried out; and the carried record after it.
-pub struct Acted {
-    pub number: u8,
-    pub carried: Carried,
-}
-
-// The place of the carried record that a record works on. Only a sample changes it.
-pub(crate) fn slot_for(item: Record) -> usize
-    ensures { λ r. ⌜ (r ≡ slotFor item) × (r < 16) ⌝ }
+// The number of its answer: 0 where it was carried out, else that of the refusal.
+pub(crate) fn act(item: Record, words: &mut [u16], numbers: &mut [i64]) -> u8
+    ensures number { λ r. ⌜ r ≡ numberFor (lent (now (words .entry)) (now (numbers .entry))) item ⌝ }
+    ensures left { λ _. ⌜ lent (now (words .exit)) (now (numbers .exit)) ≡ leftFor (lent (now (words .entry)) (now (numbers .entry))) item ⌝ }
 {
     match item {
-        Record::Store(_, _) => 0,
-        Record::Sample(number, _) => (number as usize + 15) % 16,
-        Record::Refused(_) => 0,
-    }
-}
-
-pub(crate) fn act(item: Record, words: &mut [u16], carried: Carried) -> Acted
-    ensures { λ r. ⌜ done (r .number) (now (words .exit)) (r .carried) ≡ actOf (now (words .entry)) carried item ⌝ }
-{
-    match item {
-        Record::Store(address, value) => {
-            let answer = engine::store(words, address, value);
-            let number = engine::refusal_number(answer);
-            Acted { number, carried }
-        }
-        Record::Sample(number, raw) => {
-            let done = engine::sample(words, carried, number, raw);
-            let answer = done.answer;
-            let next = done.carried;
-            let number = engine::refusal_number(answer);
-            Acted {
-                number,
-                carried: next,
-            }
-        }
-        Record::Refused(why) => {
-            let number = reader::fault_number(why);
-            Acted { number, carried }
-        }
+        Record::Store(address, value) => number_of(desk::store(words, numbers, address, value)),
+        Record::Sample(number, raw) => number_of(desk::sample(words, numbers, number, raw)),
+        Record::Refused(why) => number_of(Answer::Refused(why)),
     }
 }
 
 // How many refusals a number counts for.
-pub(crate) fn refusals(number: u8) -> usize
+pub(crate) fn refusals_in(number: u8) -> usize
     ensures { λ r. ⌜ r ≡ countOf number ⌝ }
 {
     if number == 0 { 0 } else { 1 }
+}
+
+// What is shown of the loop of a sample.
+pub(crate) fn shown(item: Record, words: &[u16]) -> [u16; 4]
+    ensures { λ r. ⌜ r ≡ shownFor (now (words .entry)) item ⌝ }
+{
+    match item {
+        Record::Store(_, _) => [0; 4],
+        Record::Sample(number, _) => desk::line(words, number),
+        Record::Refused(_) => [0; 4],
+    }
 }

@@ -2,3 +2,4 @@
 pub mod Words
 pub mod Modes
 pub mod Settings
+pub mod Reading

@@ -1,9 +1,8 @@
--- A loop's 32 words read as its settings, each word by its decimal offset; and all that a sample reads of the table.
+-- A loop's 32 words read as its settings, each word by its decimal offset.
 use Prim.Native.Nat.{ℕ}
-use mathlib.Core.Bool.{Bool, cond, _||_}
+use mathlib.Core.Bool.{Bool, _||_}
 use mathlib.Core.List.{List, [], _∷_}
 use lib.ListN.{getD}
-use Rattle.table.specs.declared.mode.Mode.{Mode}
 use Rattle.table.specs.declared.settings.Mode1.{Mode1}
 use Rattle.table.specs.declared.settings.Mode2.{Mode2}
 use Rattle.table.specs.declared.settings.Tuning.{Tuning}
@@ -11,9 +10,7 @@ use Rattle.table.specs.declared.settings.AlarmLimits.{AlarmLimits}
 use Rattle.table.specs.declared.settings.OutputLimits.{OutputLimits}
 use Rattle.table.specs.declared.settings.Stored.{Stored}
 use Rattle.table.specs.declared.settings.Settings.{Settings}
-use Rattle.table.specs.declared.settings.Reading.{Reading}
-use Rattle.table.specs.Words.{bit, bcd, badDigit, formatOf, blockAt, any}
-use Rattle.table.specs.Modes.{isCascade, modeAfter}
+use Rattle.table.specs.Words.{bit, bcd, badDigit, formatOf, any}
 pub mod Laws
 
 -- mode 1, word 0
@@ -56,7 +53,7 @@ unusedBits word =
 
 -- mode 2, word 1
 unfoldable pub mode2Of : ℕ → Mode2
-mode2Of word = record { format = formatOf word; minutes = bit 4 word; unused = unusedBits word }
+mode2Of word = record { input = formatOf word; output = formatOf word; minutes = bit 4 word; unused = unusedBits word }
 
 -- words 7 to 10
 unfoldable pub badDigits : List ℕ → Bool
@@ -91,21 +88,10 @@ settingsOf w = record {
   stored = storedOf w;
   mode1 = mode1Of (getD w 0 0);
   mode2 = mode2Of (getD w 1 0);
-  digits = badDigits w;
+  baddigit = badDigits w;
   tuning = tuningOf w;
   alarms = alarmLimitsOf w;
   limits = outputLimitsOf w;
   deadband = getD w 19 0;
   pointer = getD w 26 0;
 }
-
--- in Cascade, the word at the pointer
-unfoldable pub remoteOf : List ℕ → Mode → ℕ → ℕ
-remoteOf words mode pointer = cond (isCascade mode) (getD words pointer 0) 0
-
--- all that a sample of the loop at `base` reads of the table, `former` being the loop's mode so far
-unfoldable pub readingOf : List ℕ → ℕ → Mode → Reading
-readingOf words base former =
-    let s = settingsOf (blockAt words base) in
-    let mode = modeAfter (s .mode1) former in
-    record { settings = s; mode = mode; remote = remoteOf words mode (s .pointer) }

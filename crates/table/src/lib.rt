@@ -4,6 +4,8 @@
 // answer depends on what that reads, and on nothing else of the table.
 mod format;
 mod mode;
+mod offsets;
+mod reading;
 mod settings;
 mod words;
 
@@ -12,13 +14,24 @@ pub use mode::Mode;
 pub use mode::is_automatic;
 pub use mode::is_cascade;
 pub use mode::is_manual;
+pub use offsets::BIAS;
+pub use offsets::LOOP_WORDS;
+pub use offsets::LOOPS;
+pub use offsets::MODE_1;
+pub use offsets::OUTPUT;
+pub use offsets::PV;
+pub use offsets::SETPOINT;
+pub use offsets::STATUS;
+pub use offsets::WORDS;
+pub use reading::Reading;
+pub use reading::base_of;
+pub use reading::read_loop;
 pub use settings::AlarmLimits;
 pub use settings::Mode1;
 pub use settings::Mode2;
 pub use settings::OutputLimits;
-pub use settings::Reading;
 pub use settings::Settings;
 pub use settings::Stored;
 pub use settings::Tuning;
-pub use settings::read_loop;
 pub use words::clear_requests;
+pub use words::word_at;

@@ -1,7 +1,6 @@
 // The mode of a loop.
-use crate::settings::Mode1;
 ghost use mathlib.Core.Path.{_≡_};
-ghost use Rattle.table.specs.Modes.{isManual, isAutomatic, isCascade, modeAfter};
+ghost use Rattle.table.specs.Modes.{isManual, isAutomatic, isCascade};
 
 pub enum Mode {
     Manual,
@@ -36,20 +35,5 @@ pub fn is_cascade(mode: Mode) -> bool
         Mode::Manual => false,
         Mode::Automatic => false,
         Mode::Cascade => true,
-    }
-}
-
-// Step 2: the lowest request bit that is set gives the mode, and none keeps it.
-pub(crate) fn mode_after(bits: Mode1, former: Mode) -> Mode
-    ensures { λ r. ⌜ r ≡ modeAfter bits former ⌝ }
-{
-    if bits.manual {
-        Mode::Manual
-    } else if bits.automatic {
-        Mode::Automatic
-    } else if bits.cascade {
-        Mode::Cascade
-    } else {
-        former
     }
 }

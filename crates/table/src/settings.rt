@@ -1,15 +1,33 @@
 // A loop's settings, by subject, and how they are read. A comment gives each word's offset or bit.
 use crate::format::Format;
-use crate::mode::Mode;
-use crate::mode::is_cascade;
-use crate::mode::mode_after;
+use crate::offsets::BIAS;
+use crate::offsets::CHANGE;
+use crate::offsets::DEADBAND;
+use crate::offsets::GAIN;
+use crate::offsets::HIGH;
+use crate::offsets::HIGH_HIGH;
+use crate::offsets::HYSTERESIS;
+use crate::offsets::LOW;
+use crate::offsets::LOW_LOW;
+use crate::offsets::MODE_1;
+use crate::offsets::MODE_2;
+use crate::offsets::OUTPUT;
+use crate::offsets::OUTPUT_HIGH;
+use crate::offsets::OUTPUT_LOW;
+use crate::offsets::PERIOD;
+use crate::offsets::POINTER;
+use crate::offsets::RATE;
+use crate::offsets::RED;
+use crate::offsets::RESET;
+use crate::offsets::SETPOINT;
+use crate::offsets::STATUS;
+use crate::offsets::YELLOW;
 use crate::words::bad_digit;
 use crate::words::decimal;
-use crate::words::word_at;
 ghost use mathlib.Core.Path.{_≡_};
-ghost use Prim.Native.Nat.{_+_, _≤_};
+ghost use Prim.Native.Nat.{_≤_};
 ghost use lib.ListN.{length};
-ghost use Rattle.table.specs.Settings.{mode1Of, mode2Of, unusedBits, badDigits, tuningOf, alarmLimitsOf, storedOf, settingsOf, remoteOf, readingOf};
+ghost use Rattle.table.specs.Settings.{mode1Of, mode2Of, unusedBits, badDigits, tuningOf, alarmLimitsOf, storedOf, settingsOf};
 
 // The bits of mode 1. Bit 15 has no use and is kept as it stands.
 pub struct Mode1 {
@@ -32,7 +50,8 @@ pub struct Mode1 {
 
 // The bits of mode 2. Bit 8 is ignored.
 pub struct Mode2 {
-    pub format: Format, // 1 and 9
+    pub input: Format, // 1 and 9: of PVs and setpoint
+    pub output: Format, // the same: of output, its limits and bias
     pub minutes: bool, // 4: reset in minutes
     pub unused: bool, // any bit but 1, 4, 8 and 9
 }
@@ -74,20 +93,12 @@ pub struct Settings {
     pub stored: Stored,
     pub mode1: Mode1,
     pub mode2: Mode2,
-    pub digits: bool, // a digit above 9 stands in words 7 to 10
+    pub baddigit: bool, // a digit above 9 stands in words 7 to 10
     pub tuning: Tuning,
     pub alarms: AlarmLimits,
     pub limits: OutputLimits,
     pub deadband: u16, // 19
     pub pointer: u16, // 26
-}
-
-// What a sample reads: the settings, the mode after the requests and, in Cascade, the word that the
-// setpoint pointer names (else 0).
-pub struct Reading {
-    pub settings: Settings,
-    pub mode: Mode,
-    pub remote: u16,
 }
 
 fn read_mode1(word: u16) -> Mode1
@@ -135,7 +146,8 @@ fn read_mode2(word: u16) -> Mode2
     let format = Format::new(word);
     let unused = unused_bits(word);
     Mode2 {
-        format,
+        input: format,
+        output: format,
         minutes: word / 16 % 2 == 1,
         unused,
     }
@@ -145,7 +157,7 @@ fn bad_digits(w: &[u16]) -> bool
     requires { ⌜ 32 ≤ length (now w) ⌝ }
     ensures { λ r. ⌜ r ≡ badDigits (now (w .entry)) ⌝ }
 {
-    bad_digit(w[7]) | bad_digit(w[8]) | bad_digit(w[9]) | bad_digit(w[10])
+    bad_digit(w[PERIOD]) | bad_digit(w[GAIN]) | bad_digit(w[RESET]) | bad_digit(w[RATE])
 }
 
 fn read_tuning(w: &[u16]) -> Tuning
@@ -153,10 +165,10 @@ fn read_tuning(w: &[u16]) -> Tuning
     ensures { λ r. ⌜ r ≡ tuningOf (now (w .entry)) ⌝ }
 {
     Tuning {
-        period: decimal(w[7]),
-        gain: decimal(w[8]),
-        reset: decimal(w[9]),
-        rate: decimal(w[10]),
+        period: decimal(w[PERIOD]),
+        gain: decimal(w[GAIN]),
+        reset: decimal(w[RESET]),
+        rate: decimal(w[RATE]),
     }
 }
 
@@ -165,14 +177,14 @@ fn read_alarm_limits(w: &[u16]) -> AlarmLimits
     ensures { λ r. ⌜ r ≡ alarmLimitsOf (now (w .entry)) ⌝ }
 {
     AlarmLimits {
-        lowlow: w[11],
-        low: w[12],
-        high: w[13],
-        highhigh: w[14],
-        yellow: w[15],
-        red: w[16],
-        change: w[17],
-        hysteresis: w[18],
+        lowlow: w[LOW_LOW],
+        low: w[LOW],
+        high: w[HIGH],
+        highhigh: w[HIGH_HIGH],
+        yellow: w[YELLOW],
+        red: w[RED],
+        change: w[CHANGE],
+        hysteresis: w[HYSTERESIS],
     }
 }
 
@@ -181,64 +193,40 @@ fn read_stored(w: &[u16]) -> Stored
     ensures { λ r. ⌜ r ≡ storedOf (now (w .entry)) ⌝ }
 {
     Stored {
-        word: w[0],
-        setpoint: w[2],
-        bias: w[4],
-        output: w[5],
-        status: w[6],
+        word: w[MODE_1],
+        setpoint: w[SETPOINT],
+        bias: w[BIAS],
+        output: w[OUTPUT],
+        status: w[STATUS],
     }
 }
 
 // A loop's 32 words.
-fn read_settings(w: &[u16]) -> Settings
+pub(crate) fn read_settings(w: &[u16]) -> Settings
     requires { ⌜ 32 ≤ length (now w) ⌝ }
     ensures { λ r. ⌜ r ≡ settingsOf (now (w .entry)) ⌝ }
 {
-    let first = w[0];
-    let second = w[1];
-    let low = w[24];
-    let high = w[25];
-    let deadband = w[19];
-    let pointer = w[26];
+    let first = w[MODE_1];
+    let second = w[MODE_2];
+    let low = w[OUTPUT_LOW];
+    let high = w[OUTPUT_HIGH];
+    let deadband = w[DEADBAND];
+    let pointer = w[POINTER];
     let stored = read_stored(w);
     let mode1 = read_mode1(first);
     let mode2 = read_mode2(second);
-    let digits = bad_digits(w);
+    let baddigit = bad_digits(w);
     let tuning = read_tuning(w);
     let alarms = read_alarm_limits(w);
     Settings {
         stored,
         mode1,
         mode2,
-        digits,
+        baddigit,
         tuning,
         alarms,
         limits: OutputLimits { low, high },
         deadband,
         pointer,
-    }
-}
-
-// The word that the setpoint pointer names, in Cascade; else 0.
-fn read_remote(words: &[u16], mode: Mode, pointer: u16) -> u16
-    ensures { λ r. ⌜ r ≡ remoteOf (now (words .entry)) mode pointer ⌝ }
-{
-    let cascade = is_cascade(mode);
-    if cascade { word_at(words, pointer) } else { 0 }
-}
-
-// What a sample of the loop at `base` reads, the loop's mode so far being `former`.
-pub fn read_loop(words: &[u16], base: usize, former: Mode) -> Reading
-    requires { ⌜ base + 32 ≤ length (now words) ⌝ }
-    ensures { λ r. ⌜ r ≡ readingOf (now (words .entry)) base former ⌝ }
-{
-    let settings = read_settings(&words[base..base + 32]);
-    let bits = settings.mode1;
-    let mode = mode_after(bits, former);
-    let remote = read_remote(words, mode, settings.pointer);
-    Reading {
-        settings,
-        mode,
-        remote,
     }
 }

@@ -18,10 +18,9 @@ pub(crate) fn bad_digit(word: u16) -> bool
 }
 
 // The word at an address; 0 where there is none.
-pub(crate) fn word_at(words: &[u16], address: u16) -> u16
-    ensures { λ r. ⌜ r ≡ getD (now (words .entry)) address 0 ⌝ }
+pub fn word_at(words: &[u16], at: usize) -> u16
+    ensures { λ r. ⌜ r ≡ getD (now (words .entry)) at 0 ⌝ }
 {
-    let at = address as usize;
     if at < words.len() { words[at] } else { 0 }
 }
 

@@ -1,6 +1,8 @@
 -- Texts as lists of bytes: the decimal and hexadecimal digits of a number, how digits are read, and what it is to write a text into a buffer.
 -- The laws of these definitions are in `Text/Laws`.
 use Prim.Native.Nat.{ℕ, zero, suc, _+_, _*_, _-_, _/_, _%_}
+use Prim.Native.Char.{code}
+use Prim.Native.String.{String, [] as none, _∷_ as _then_}
 use mathlib.Core.Path.{_≡_}
 use mathlib.Core.Bool.{cond}
 use mathlib.Core.List.{List, [], _∷_, _++_, foldl}
@@ -8,6 +10,11 @@ use lib.ListN.{length}
 use lib.Dec.{ltb}
 use lib.Seq.{sets}
 pub mod Laws
+
+-- the bytes of a quoted text
+abbrev pub bytes : String → List ℕ
+bytes none = []
+bytes (c then more) = code c ∷ bytes more
 
 -- `after` holds the text from `at` on and is `before` elsewhere; `next` is the place behind the text
 pub record Written (before : List ℕ) (at : ℕ) (text after : List ℕ) (next : ℕ) : Type 0 where

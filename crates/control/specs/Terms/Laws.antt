@@ -15,7 +15,8 @@ use Rattle.numbers.specs.Fractions.Laws.{round-over, round-neg}
 use Rattle.table.specs.declared.settings.Tuning.{Tuning}
 use Rattle.control.specs.declared.terms.Inputs.{Inputs}
 use Rattle.control.specs.declared.terms.Terms.{Terms}
-use Rattle.control.specs.Terms.{factorOf, exactP, exactI, exactD, directedᶠ, negated, exactTerms, termsOf, Tuned, Bounded, Small}
+use Rattle.control.specs.Terms.{factorOf, exactP, exactI, exactD, directedᶠ, negated, exactTerms, termsOf}
+use Rattle.control.specs.Premises.{Tuned, Bounded, Small}
 
 -- a term k × e / d in units is one quotient
 pub term-is : (k : ℕ) (e : ℤ) {d : ℕ} → 0 < d → roundTo 262144 (over (pos k *ℤ e) d) ≡ halfAway (pos (k * 262144) *ℤ e) d

@@ -1,6 +1,6 @@
--- `kexbardi_files::kexbardi_print` meets its contract.
-use Rattle.kexbardi_files.proofs.Leaving.{print-none, print-some}
+-- `kexbardi_files::kexbardi_print` meets its contract: by whether there was room.
 use Rattle.kexbardi_files.specs.Files.{printLeft}
+use Rattle.kexbardi_files.proofs.Printing.{print-none, print-some}
 use borrow.Author.Needs.{needs}
 use Rattle.kexbardi_files.proofs.kexbardi_print.Statement.{statement}
 use Rattle.kexbardi_files.proofs.kexbardi_print.Tie as tie

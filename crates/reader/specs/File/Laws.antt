@@ -8,7 +8,7 @@ use lib.ListN.{length, take, drop, length-map, drop-of-length-le, take-append-dr
 use lib.Seq.{slice, length-take-le, drop-append-le}
 use lib.Dec.{ltb, eqb}
 use borrow.Author.Tests.{lt-ltb, le-ltb, ltb-true, ltb-false}
-use Rattle.reader.specs.declared.Fault.the-variants.{Cut}
+use Rattle.refusals.specs.declared.Refusal.the-variants.{Cut}
 use Rattle.reader.specs.declared.Record.{Record}
 use Rattle.reader.specs.declared.Record.the-variants.{Refused}
 use Rattle.reader.specs.declared.Step.{Step}

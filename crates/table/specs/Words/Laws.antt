@@ -13,7 +13,7 @@ use borrow.Author.Tests.{ltb-false}
 use Rattle.table.specs.declared.format.Format.{Format}
 use Rattle.table.specs.Words.{bit, bcd, badDigit, clearRequests, formatOf, blockAt, any, anyAfter}
 
-or-false : (a b : Bool) → (a || b) ≡ false → (a ≡ false) × (b ≡ false)
+pub or-false : (a b : Bool) → (a || b) ≡ false → (a ≡ false) × (b ≡ false)
 or-false true b e = let z : true ≡ false = e in (z, cc)
 or-false false b e = (refl, e)
 

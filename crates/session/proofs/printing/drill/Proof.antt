@@ -1,8 +1,13 @@
--- `session::drill` meets its contract: each branch is the case of `printedWithin` that its tests pick.
+-- `session::drill` meets its contract: each branch is the case of `printedWithin` that its tests pick. The desk is fresh from a reset.
 use native.Mathlib.Omega.{arith}
-use mathlib.Core.Path.{refl}
+use mathlib.Core.Path.{_≡_, refl, _∙_}
+use mathlib.Core.Bool.{true}
 use borrow.Author.Tests.{lt-ltb, le-ltb}
-use Rattle.session.specs.Session.{printedOf, printedWithin}
+use lib.IntN.{pos}
+use lib.ListN.{replicate}
+use Rattle.desk.specs.Desk.{lent, fittingOf, resetDesk}
+use Rattle.desk.specs.Desk.Laws.{reset-sound}
+use Rattle.session.specs.Printed.{printedOf, printedWithin}
 use Rattle.session.proofs.Loops.{printed}
 use borrow.Author.Needs.{needs}
 use Rattle.session.proofs.printing.drill.Statement.{statement}
@@ -31,14 +36,20 @@ unfolding printedWithin printedOf
 returns-2 c =
     rw (le-ltb 65536 _ (c .before .if1 .left), lt-ltb _ _ (c .if2 .taken)) (printed (record { buffer = refl; place = refl }) (omega arith))
 
-reset-words-requires : tie.Need-reset-words-requires
-reset-words-requires c κs = search needs
+slice-aggregate-reset : tie.Need-slice-aggregate-reset
+slice-aggregate-reset c = search needs
 
-reset-records-requires : tie.Need-reset-records-requires
-reset-records-requires c κs = search needs
+slice-aggregate-reset-2 : tie.Need-slice-aggregate-reset-2
+slice-aggregate-reset-2 c = search needs
+
+reset-requires : tie.Need-reset-requires
+reset-requires c κs = search needs
 
 slice-aggregate-transcript : tie.Need-slice-aggregate-transcript
 slice-aggregate-transcript c = search needs
+
+slice-aggregate-transcript-2 : tie.Need-slice-aggregate-transcript-2
+slice-aggregate-transcript-2 c = search needs
 
 transcript-requires : tie.Need-transcript-requires
 transcript-requires c κs = search needs
@@ -46,13 +57,18 @@ transcript-requires c κs = search needs
 same-length-2 : tie.Need-same-length-2
 same-length-2 c = search needs
 
+-- the memory that is reset has its lengths
+zeros : fittingOf (lent (replicate 1024 0) (replicate 128 (pos 0))) ≡ true
+unfolding fittingOf
+zeros = refl
+
 returns-3 : tie.Need-returns-3
 unfolding printedWithin printedOf
 returns-3 c =
-    let t = c .before .before .before in
-    let r = t .before .before .before in
-    let e = r .before .before in
-    let w = rw (r .before .reset-words .ensures, r .reset-records .ensures) at (t .transcript .ensures .0) in
+    let t = c .before .before .before .before in
+    let r = t .before .before .before .before .before .before in
+    let e = r .before .before .before in
+    let w = rw (r .reset .ensures .1 ∙ reset-sound _ zeros) at (t .transcript .ensures .0) in
     rw (le-ltb 65536 _ (e .before .if1 .left), le-ltb _ _ (e .if2 .left))
     (printed w (omega (arith, t .transcript .ensures .1, e .if2 .left)))
 
@@ -66,9 +82,11 @@ drill-spec =
     mul-if2
     add-if2
     returns-2
-    reset-words-requires
-    reset-records-requires
+    slice-aggregate-reset
+    slice-aggregate-reset-2
+    reset-requires
     slice-aggregate-transcript
+    slice-aggregate-transcript-2
     transcript-requires
     same-length-2
     returns-3)

@@ -5,41 +5,27 @@ use mathlib.Core.Path.{_≡_, refl, ap, _∙_}
 use lib.ListN.{length}
 use Rattle.reader.specs.declared.Step.{Step}
 use Rattle.reader.specs.File.Laws.{next-bounds}
-use Rattle.engine.specs.Records.{resetRecord}
-use Rattle.session.proofs.Loops.{end, Answering, start-answering, answer, end-answering, count-small}
+use Rattle.session.specs.Session.Laws.{count-small}
+use Rattle.session.proofs.Loops.{end, Answering, start-answering, answer, end-answering}
 use Rattle.session.proofs.running.carry_all.Statement.{statement}
 use Rattle.session.proofs.running.carry_all.Tie as tie
 
 abbrev Inv-loop : tie.InvT-loop
-Inv-loop file words₀ answers₀ kept₀ count₀ refused₀ at₀ words answers kept count refused at =
-    Answering file words₀ kept₀ answers₀ words kept count refused at answers × (length words ≡ length words₀)
+Inv-loop file words₀ numbers₀ answers₀ count₀ refused₀ at₀ words numbers answers count refused at =
+    Answering file words₀ numbers₀ answers₀ words numbers count refused at answers
+    × ((length words ≡ length words₀) × (length numbers ≡ length numbers₀))
 
 abbrev μ-loop : tie.MeasureT-loop
-μ-loop file words₀ answers₀ kept₀ count₀ refused₀ at₀ words answers kept count refused at = length file - at
+μ-loop file words₀ numbers₀ answers₀ count₀ refused₀ at₀ words numbers answers count refused at = length file - at
 
 loop-holds : tie.Need-loop-holds Inv-loop μ-loop
-loop-holds c = (start-answering _ _ _ _, refl)
+loop-holds c = (start-answering _ _ _ _, (refl, refl))
 
 read-record-requires : tie.Need-read-record-requires Inv-loop μ-loop
 read-record-requires c κs = tt
 
-slot-for-requires : tie.Need-slot-for-requires Inv-loop μ-loop
-slot-for-requires c κs = tt
-
-mul-carried : tie.Need-mul-carried Inv-loop μ-loop
-mul-carried c = omega arith
-
-array-copy-out-carried : tie.Need-array-copy-out-carried Inv-loop μ-loop
-array-copy-out-carried c = omega arith
-
 act-requires : tie.Need-act-requires Inv-loop μ-loop
 act-requires c κs = tt
-
-mul-kept : tie.Need-mul-kept Inv-loop μ-loop
-mul-kept c = omega arith
-
-array-set-from-kept : tie.Need-array-set-from-kept Inv-loop μ-loop
-array-set-from-kept c = omega arith
 
 keep-requires : tie.Need-keep-requires Inv-loop μ-loop
 keep-requires c κs = tt
@@ -47,35 +33,37 @@ keep-requires c κs = tt
 add-count : tie.Need-add-count Inv-loop μ-loop
 add-count c = omega arith
 
-refusals-requires : tie.Need-refusals-requires Inv-loop μ-loop
-refusals-requires c κs = tt
+refusals-in-requires : tie.Need-refusals-in-requires Inv-loop μ-loop
+refusals-in-requires c κs = tt
 
 add-refused : tie.Need-add-refused Inv-loop μ-loop
-add-refused c = omega (arith, count-small (c .before .before .before .before .before .before .before .before .act .result .number) (c .refusals .ensures))
+add-refused c = omega (arith, c .refusals-in .ensures, count-small (c .before .before .before .before .before .before .before .before .act .result))
 
 loop-less : tie.Need-loop-less Inv-loop μ-loop
 loop-less c =
-    let r = c .before .before .before .before .before .before .before .before .before .before .before .before in
+    let r = c .before .before .before .before .before .before .before .before .before .before .before in
     let l = r .before .before in
     omega (arith, ap (λ (z : Step). z .next) (r .read-record .ensures), next-bounds (l .before .before .before .before .args .file .now) (l .loop .at) (r .before .loop-test .taken))
 
 loop-again : tie.Need-loop-again Inv-loop μ-loop
-unfolding resetRecord
 loop-again c =
     let k = c .before .before .before in
     let a = k .before .before .before .before .before in
-    let r = a .before .before .before .before in
+    let r = a .before .before .before in
     let l = r .before .before in (
       answer _ _ _ _ (l .loop .inv .0) (r .before .loop-test .taken) (r .read-record .ensures)
-          (record { place = a .before .before .before .slot-for .ensures .0; act = a .act .ensures; count = c .refusals .ensures }) (k .keep .ensures),
-      a .act .kept .1 .0 ∙ l .loop .inv .1,
+          (record { number-of = a .act .ensures .0; left = a .act .ensures .1; count = c .refusals-in .ensures }) (k .keep .ensures),
+      (a .act .kept .1 .0 ∙ l .loop .inv .1 .0, a .act .kept .1 .1 .0 ∙ l .loop .inv .1 .1),
     )
 
 same-length : tie.Need-same-length Inv-loop μ-loop
-same-length c = c .before .loop .inv .1
+same-length c = c .before .loop .inv .1 .0
 
 same-length-2 : tie.Need-same-length-2 Inv-loop μ-loop
-same-length-2 c = c .before .loop .inv .0 .same
+same-length-2 c = c .before .loop .inv .1 .1
+
+same-length-3 : tie.Need-same-length-3 Inv-loop μ-loop
+same-length-3 c = c .before .loop .inv .0 .same
 
 returns : tie.Need-returns Inv-loop μ-loop
 returns c =
@@ -90,18 +78,14 @@ carry-all-spec =
     μ-loop
     loop-holds
     read-record-requires
-    slot-for-requires
-    mul-carried
-    array-copy-out-carried
     act-requires
-    mul-kept
-    array-set-from-kept
     keep-requires
     add-count
-    refusals-requires
+    refusals-in-requires
     add-refused
     loop-less
     loop-again
     same-length
     same-length-2
+    same-length-3
     returns)

@@ -1,0 +1,102 @@
+-- `carried::out_of_range` meets its contract: each row's test is that of the number read back.
+use lib.IntN.{pos}
+use lib.ListN.{getD}
+use mir.Syntax.{w64}
+use mir.Facts.{toZ-ofZ}
+use Rattle.carried.specs.Layout.{outOfRange}
+use borrow.Author.Needs.{needs}
+use Rattle.carried.proofs.layout.out_of_range.Statement.{statement}
+use Rattle.carried.proofs.layout.out_of_range.Tie as tie
+
+array-copy-out-outside : tie.Need-array-copy-out-outside
+array-copy-out-outside c = search needs
+
+outside-requires : tie.Need-outside-requires
+outside-requires c κs = search needs
+
+array-copy-out-outside-2 : tie.Need-array-copy-out-outside-2
+array-copy-out-outside-2 c = search needs
+
+outside-requires-2 : tie.Need-outside-requires-2
+outside-requires-2 c κs = search needs
+
+array-copy-out-outside-3 : tie.Need-array-copy-out-outside-3
+array-copy-out-outside-3 c = search needs
+
+outside-requires-3 : tie.Need-outside-requires-3
+outside-requires-3 c κs = search needs
+
+array-copy-out-outside-4 : tie.Need-array-copy-out-outside-4
+array-copy-out-outside-4 c = search needs
+
+outside-requires-4 : tie.Need-outside-requires-4
+outside-requires-4 c κs = search needs
+
+array-copy-out-outside-5 : tie.Need-array-copy-out-outside-5
+array-copy-out-outside-5 c = search needs
+
+outside-requires-5 : tie.Need-outside-requires-5
+outside-requires-5 c κs = search needs
+
+array-copy-out-outside-6 : tie.Need-array-copy-out-outside-6
+array-copy-out-outside-6 c = search needs
+
+outside-requires-6 : tie.Need-outside-requires-6
+outside-requires-6 c κs = search needs
+
+array-copy-out-outside-7 : tie.Need-array-copy-out-outside-7
+array-copy-out-outside-7 c = search needs
+
+outside-requires-7 : tie.Need-outside-requires-7
+outside-requires-7 c κs = search needs
+
+array-copy-out-outside-8 : tie.Need-array-copy-out-outside-8
+array-copy-out-outside-8 c = search needs
+
+outside-requires-8 : tie.Need-outside-requires-8
+outside-requires-8 c κs = search needs
+
+returns : tie.Need-returns
+unfolding outOfRange
+returns c =
+    let c7 = c .before .before in
+    let c6 = c7 .before .before in
+    let c5 = c6 .before .before in
+    let c4 = c5 .before .before in
+    let c3 = c4 .before .before in
+    let c2 = c3 .before .before in
+    let c1 = c2 .before .before in
+    let l = c1 .before .before .args .t1 in
+    simp (c1 .outside .ensures, c2 .outside2 .ensures, c3 .outside3 .ensures, c4 .outside4 .ensures, c5 .outside5 .ensures, c6 .outside6 .ensures, c7 .outside7 .ensures, c .outside8 .ensures)
+    (simp (
+      toZ-ofZ {w = w64} {z = getD l 0 (pos 0)} (search needs),
+      toZ-ofZ {w = w64} {z = getD l 1 (pos 0)} (search needs),
+      toZ-ofZ {w = w64} {z = getD l 2 (pos 0)} (search needs),
+      toZ-ofZ {w = w64} {z = getD l 3 (pos 0)} (search needs),
+      toZ-ofZ {w = w64} {z = getD l 4 (pos 0)} (search needs),
+      toZ-ofZ {w = w64} {z = getD l 5 (pos 0)} (search needs),
+      toZ-ofZ {w = w64} {z = getD l 6 (pos 0)} (search needs),
+      toZ-ofZ {w = w64} {z = getD l 7 (pos 0)} (search needs),
+    ))
+
+pub out-of-range-spec : {M : Type 1} → statement M
+out-of-range-spec =
+    tie.close
+    (tie.spec
+    array-copy-out-outside
+    outside-requires
+    array-copy-out-outside-2
+    outside-requires-2
+    array-copy-out-outside-3
+    outside-requires-3
+    array-copy-out-outside-4
+    outside-requires-4
+    array-copy-out-outside-5
+    outside-requires-5
+    array-copy-out-outside-6
+    outside-requires-6
+    array-copy-out-outside-7
+    outside-requires-7
+    array-copy-out-outside-8
+    outside-requires-8
+    returns)

@@ -1,0 +1,119 @@
+-- The carried record of a loop as numbers of 64 bits, in the order of document 01's list: their ranges, one row a number, and the place of each
+-- loop's record in the lent buffer.
+use Prim.Native.Nat.{ℕ, suc, _+_, _*_, _-_, _^_}
+use mathlib.Core.Bool.{Bool, false, cond, _||_}
+use mathlib.Core.List.{List, [], _∷_}
+use lib.ListN.{length, getD, take, drop}
+use lib.IntN.{ℤ, pos, negℤ, natAbs}
+use lib.Signed.{ltZ}
+use Rattle.table.specs.declared.mode.Mode.{Mode}
+use Rattle.table.specs.declared.mode.Mode.the-variants.{Manual, Automatic, Cascade}
+use Rattle.table.specs.Words.{any}
+use Rattle.carried.specs.declared.record.Carried.{Carried}
+pub mod Laws
+
+-- ---- the ranges: a table, one row for each number of a record
+
+pub record Range : Type 0 where
+  pub low : ℤ
+  pub high : ℤ
+
+infix 20 _to_
+abbrev pub _to_ : ℤ → ℤ → Range
+low to high = record { low = low; high = high }
+
+-- mode; bias and output in units; the last PV and the one before; error; algorithm; whether a sample was ever accepted
+abbrev pub ranges : List Range
+ranges =
+    (pos 0 to pos 2)
+    ∷ (negℤ (pos (2 ^ 52)) to pos (2 ^ 52))
+    ∷ (pos 0 to pos (65535 * 262144))
+    ∷ (pos 0 to pos 65535)
+    ∷ (pos 0 to pos 65535)
+    ∷ (negℤ (pos 65535) to pos 65535)
+    ∷ (pos 0 to pos 1)
+    ∷ (pos 0 to pos 1)
+    ∷ []
+
+-- how many numbers a record has
+abbrev pub fieldCount : ℕ
+fieldCount = length ranges
+
+-- a number is outside its row
+abbrev pub outsideRow : Range → ℤ → Bool
+outsideRow r n = ltZ n (r .low) || ltZ (r .high) n
+
+-- each number of a record, from the i-th on, against its row
+abbrev pub rangeTests : List Range → List ℤ → ℕ → List Bool
+rangeTests [] ns i = []
+rangeTests (r ∷ rs) ns i = outsideRow r (getD ns i (pos 0)) ∷ rangeTests rs ns (suc i)
+
+-- a number of the record is out of range
+unfoldable pub outOfRange : List ℤ → Bool
+outOfRange ns = any (rangeTests ranges ns 0)
+
+-- ---- a record as numbers
+
+abbrev pub modeNumber : Mode → ℕ
+modeNumber Manual = 0
+modeNumber Automatic = 1
+modeNumber Cascade = 2
+
+abbrev pub flag : Bool → ℤ
+flag on = cond on (pos 1) (pos 0)
+
+unfoldable pub numbersOf : Carried → List ℤ
+numbersOf c =
+    pos (modeNumber (c .state .mode))
+    ∷ c .drive .bias
+    ∷ c .drive .output
+    ∷ pos (c .past .last)
+    ∷ pos (c .past .prior)
+    ∷ c .past .error
+    ∷ flag (c .state .velocity)
+    ∷ flag (c .sampled)
+    ∷ []
+
+-- ---- and back, from numbers in range
+
+abbrev pub modeFrom : ℤ → Mode
+modeFrom n = cond (ltZ n (pos 1)) Manual (cond (ltZ n (pos 2)) Automatic Cascade)
+
+abbrev pub flagFrom : ℤ → Bool
+flagFrom n = ltZ (pos 0) n
+
+unfoldable pub recordFrom : List ℤ → Carried
+recordFrom ns =
+    let at : ℕ → ℤ = λ i. getD ns i (pos 0) in
+    record {
+      state = record { mode = modeFrom (at 0); velocity = flagFrom (at 6) };
+      drive = record { bias = at 1; output = at 2 };
+      past = record { last = natAbs (at 3); prior = natAbs (at 4); error = at 5 };
+      sampled = flagFrom (at 7);
+    }
+
+-- at reset every number is 0, the mode Manual, and no sample accepted
+unfoldable pub resetRecord : Carried
+resetRecord = record {
+  state = record { mode = Manual; velocity = false };
+  drive = record { bias = pos 0; output = pos 0 };
+  past = record { last = 0; prior = 0; error = pos 0 };
+  sampled = false;
+}
+
+-- ---- the buffer: sixteen records, loop 1 first
+
+abbrev pub numberCount : ℕ
+numberCount = 16 * fieldCount
+
+-- the place of loop k's record
+abbrev pub slotOf : ℕ → ℕ
+slotOf k = fieldCount * (k - 1)
+
+-- the numbers of the record that starts at a place
+abbrev pub numbersAt : List ℤ → ℕ → List ℤ
+numbersAt ns at = take fieldCount (drop at ns)
+
+-- loop k's record
+abbrev pub recordAt : List ℤ → ℕ → Carried
+recordAt ns k = recordFrom (numbersAt ns (slotOf k))

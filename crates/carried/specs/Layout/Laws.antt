@@ -1,0 +1,167 @@
+-- The layout loses nothing: a record is read back from its numbers, and numbers in range are those of one record. A record put into the buffer
+-- is found there, and the others stay.
+use Prim.Native.Nat.{ℕ, suc, _+_, _*_, _^_, _≤_, _<_}
+use native.Mathlib.Omega.{arith}
+use mathlib.Core.Path.{_≡_, refl, sym, subst, _∙_}
+use mathlib.Core.Bool.{Bool, true, false}
+use mathlib.Core.List.{List, [], _∷_, _++_, append-assoc}
+use mathlib.Core.Logic.{_≢_}
+use lib.Dec.{T}
+use lib.IntN.{ℤ, pos, negℤ}
+use lib.Signed.{ltZ, _≤ℤ_}
+use lib.ListN.{length, getD, set, take, drop, length-take, length-drop}
+use lib.Seq.{sets, sets-eq, length-sets, ext-getD, drop-at, take-at, length-take-le, getD-take, getD-drop, getD-set-other}
+use Rattle.numbers.specs.Whole.{linear, neg, abs, abs-in}
+use Rattle.numbers.specs.Limits.Laws.{orderℤ}
+use Rattle.numbers.proofs.Machine.{left}
+use Rattle.table.specs.declared.mode.Mode.{Mode}
+use Rattle.table.specs.declared.mode.Mode.the-variants.{Manual, Automatic, Cascade}
+use Rattle.table.specs.Words.Laws.{or-false, none-at}
+use Rattle.carried.specs.declared.record.Carried.{Carried}
+use Rattle.carried.specs.Layout.{Range, ranges, fieldCount, _to_, outsideRow, rangeTests, outOfRange, modeNumber, flag, numbersOf, modeFrom, flagFrom, recordFrom, slotOf, numbersAt}
+use Rattle.carried.specs.Ranged.{Ranged}
+
+-- ---- a row
+
+-- a number that is not outside its row stands in it, and the reverse
+pub in-row : (r : Range) (n : ℤ) → outsideRow r n ≡ false → (r .low ≤ℤ n) × (n ≤ℤ r .high)
+in-row r n e = let p = or-false (ltZ n (r .low)) (ltZ (r .high) n) e in (left (p .0), left (p .1))
+
+not-below : (a b : ℤ) → b ≤ℤ a → ltZ a b ≡ false
+not-below a b h = go (ltZ a b) refl
+  where
+    go : (t : Bool) → ltZ a b ≡ t → ltZ a b ≡ false
+    go true e = absurd (orderℤ .strict a b (subst T (sym e) tt) h)
+    go false e = e
+
+pub row-in : (r : Range) (n : ℤ) → r .low ≤ℤ n → n ≤ℤ r .high → outsideRow r n ≡ false
+row-in r n low high = rw (not-below n (r .low) low, not-below (r .high) n high)
+
+-- ---- the rows of a record, by their names
+
+abbrev In : List ℤ → ℕ → ℤ → ℤ → Type 0
+In ns i low high = (low ≤ℤ getD ns i (pos 0)) × (getD ns i (pos 0) ≤ℤ high)
+
+pub record Rows (ns : List ℤ) : Type 0 where
+  pub mode : In ns 0 (pos 0) (pos 2)
+  pub bias : In ns 1 (negℤ (pos (2 ^ 52))) (pos (2 ^ 52))
+  pub output : In ns 2 (pos 0) (pos (65535 * 262144))
+  pub last : In ns 3 (pos 0) (pos 65535)
+  pub prior : In ns 4 (pos 0) (pos 65535)
+  pub error : In ns 5 (negℤ (pos 65535)) (pos 65535)
+  pub velocity : In ns 6 (pos 0) (pos 1)
+  pub sampled : In ns 7 (pos 0) (pos 1)
+
+-- no number is out of range where each stands in its row, and the reverse
+pub rows-in : (ns : List ℤ) → outOfRange ns ≡ false → Rows ns
+unfolding outOfRange
+rows-in ns e =
+    let no = none-at (rangeTests ranges ns 0) e in
+    record {
+      mode = in-row _ _ (no 0);
+      bias = in-row _ _ (no 1);
+      output = in-row _ _ (no 2);
+      last = in-row _ _ (no 3);
+      prior = in-row _ _ (no 4);
+      error = in-row _ _ (no 5);
+      velocity = in-row _ _ (no 6);
+      sampled = in-row _ _ (no 7);
+    }
+
+pub in-rows : (ns : List ℤ) → Rows ns → outOfRange ns ≡ false
+unfolding outOfRange
+in-rows ns r =
+    let row : (i : ℕ) (low high : ℤ) → In ns i low high → outsideRow (low to high) (getD ns i (pos 0)) ≡ false = λ i low high p. row-in (low to high) _ (p .0) (p .1) in
+    rw (
+      row 0 _ _ (r .mode),
+      row 1 _ _ (r .bias),
+      row 2 _ _ (r .output),
+      row 3 _ _ (r .last),
+      row 4 _ _ (r .prior),
+      row 5 _ _ (r .error),
+      row 6 _ _ (r .velocity),
+      row 7 _ _ (r .sampled),
+    )
+
+-- ---- a record is read back from its numbers
+
+mode-number : (m : Mode) → (modeFrom (pos (modeNumber m)) ≡ m) × (modeNumber m ≤ 2)
+mode-number Manual = (refl, omega arith)
+mode-number Automatic = (refl, omega arith)
+mode-number Cascade = (refl, omega arith)
+
+flag-number : (b : Bool) → (flagFrom (flag b) ≡ b) × ((pos 0 ≤ℤ flag b) × (flag b ≤ℤ pos 1))
+flag-number true = (refl, (omega (arith, linear), omega (arith, linear)))
+flag-number false = (refl, (omega (arith, linear), omega (arith, linear)))
+
+pub read-back : (c : Carried) → recordFrom (numbersOf c) ≡ c
+unfolding numbersOf recordFrom
+read-back c = simp (mode-number (c .state .mode) .0, flag-number (c .state .velocity) .0, flag-number (c .sampled) .0)
+
+pub numbers-length : (c : Carried) → length (numbersOf c) ≡ fieldCount
+unfolding numbersOf
+numbers-length c = refl
+
+-- ---- numbers in range are a record in range, and the reverse
+
+pub ranged : (ns : List ℤ) → outOfRange ns ≡ false → Ranged (recordFrom ns)
+unfolding recordFrom
+ranged ns e =
+    let r = rows-in ns e in
+    let bias = getD ns 1 (pos 0) in
+    let last = getD ns 3 (pos 0) in
+    let prior = getD ns 4 (pos 0) in
+    let error = getD ns 5 (pos 0) in
+    record {
+      bias = abs-in bias (omega (arith, linear, neg (pos (2 ^ 52)), r .bias));
+      positive = r .output .0;
+      output = r .output .1;
+      error = abs-in error (omega (arith, linear, neg (pos 65535), r .error));
+      last = omega (arith, linear, r .last, abs last);
+      prior = omega (arith, linear, r .prior, abs prior);
+    }
+
+pub in-range : (c : Carried) → Ranged c → outOfRange (numbersOf c) ≡ false
+unfolding numbersOf
+in-range c r =
+    in-rows (numbersOf c)
+    (record {
+      mode = (omega (arith, linear), omega (arith, linear, mode-number (c .state .mode) .1));
+      bias = (omega (arith, linear, neg (pos (2 ^ 52)), abs (c .drive .bias), r .bias), omega (arith, linear, abs (c .drive .bias), r .bias));
+      output = (r .positive, r .output);
+      last = (omega (arith, linear), omega (arith, linear, r .last));
+      prior = (omega (arith, linear), omega (arith, linear, r .prior));
+      error = (omega (arith, linear, neg (pos 65535), abs (c .past .error), r .error), omega (arith, linear, abs (c .past .error), r .error));
+      velocity = flag-number (c .state .velocity) .1;
+      sampled = flag-number (c .sampled) .1;
+    })
+
+-- ---- a record put into the buffer
+
+-- is found there
+pub put-same : (ns l : List ℤ) (at : ℕ) → length l ≡ fieldCount → at + fieldCount ≤ length ns → numbersAt (sets ns at l) at ≡ l
+put-same ns l at size fits =
+    let rest = drop (at + length l) ns in
+    let pasted : sets ns at l ≡ take at ns ++ (l ++ rest) = sets-eq l ns at (omega arith) ∙ append-assoc (take at ns) l rest in
+    rw (pasted, drop-at (take at ns) (l ++ rest) at (length-take-le at ns (omega arith)), take-at l rest 8 size)
+
+-- a number that is not written over
+apart : (vs l : List ℤ) (i j : ℕ) (d : ℤ) → ((k : ℕ) → k < length vs → j ≢ i + k) → getD (sets l i vs) j d ≡ getD l j d
+apart [] l i j d h = refl
+apart (v ∷ vs) l i j d h =
+    apart vs (set l i v) (suc i) j d (λ k p e. h (suc k) (omega arith) (omega arith)) ∙ getD-set-other l i j v d (λ e. h 0 (omega arith) (omega arith))
+
+-- and leaves the records of the other loops
+pub put-other : (ns l : List ℤ) (j k : ℕ) → length l ≡ fieldCount → 1 ≤ j → 1 ≤ k → (k ≡ j → ⊥)
+    → numbersAt (sets ns (slotOf j) l) (slotOf k) ≡ numbersAt ns (slotOf k)
+put-other ns l j k size first second other =
+    ext-getD (pos 0) _ _ (simp (length-take, length-drop, length-sets)) at
+  where
+    at : (i : ℕ) → i < length (numbersAt (sets ns (slotOf j) l) (slotOf k)) → getD (numbersAt (sets ns (slotOf j) l) (slotOf k)) i (pos 0) ≡ getD (numbersAt ns (slotOf k)) i (pos 0)
+    at i p =
+        let few : i < 8 = omega (arith, length-take 8 (drop (slotOf k) (sets ns (slotOf j) l))) in
+        getD-take 8 (drop (slotOf k) (sets ns (slotOf j) l)) i (pos 0) few
+        ∙ getD-drop (slotOf k) (sets ns (slotOf j) l) i (pos 0)
+        ∙ apart l ns (slotOf j) (slotOf k + i) (pos 0) (λ n q e. other (omega arith))
+        ∙ sym (getD-drop (slotOf k) ns i (pos 0))
+        ∙ sym (getD-take 8 (drop (slotOf k) ns) i (pos 0) few)

@@ -1,0 +1,181 @@
+// A carried record as numbers of 64 bits, and its place in the lent buffer. A new field is a place here, a
+// row of `ranges` and a line of `numbersOf` and `recordFrom` in the definitions.
+use crate::record::Carried;
+use crate::record::Past;
+use crate::record::State;
+use control::Drive;
+use table::Mode;
+ghost use mathlib.Core.Path.{_≡_};
+ghost use mathlib.Core.Bool.{false};
+ghost use Prim.Native.Nat.{_+_, _≤_};
+ghost use lib.IntN.{pos};
+ghost use lib.ListN.{length};
+ghost use lib.Seq.{sets};
+ghost use Rattle.carried.specs.Layout.{modeNumber, flag, numbersOf, modeFrom, recordFrom, _to_, outsideRow, outOfRange, slotOf, numbersAt};
+
+pub const FIELDS: usize = 8; // numbers of a record
+
+pub const NUMBERS: usize = 16 * FIELDS; // numbers of the buffer
+
+// The place of each number in a record, as in the header.
+const MODE: usize = 0;
+
+const BIAS: usize = 1;
+
+const OUTPUT: usize = 2;
+
+const LAST_PV: usize = 3;
+
+const PRIOR_PV: usize = 4;
+
+const ERROR: usize = 5;
+
+const VELOCITY: usize = 6;
+
+const SAMPLED: usize = 7;
+
+// The ends of the ranges: a mode, a flag, a word, bias and output in units.
+const CASCADE: i64 = 2;
+
+const ON: i64 = 1;
+
+const WORD: i64 = 65535;
+
+const LEAST_ERROR: i64 = -65535;
+
+const LEAST_BIAS: i64 = -4503599627370496;
+
+const MOST_BIAS: i64 = 4503599627370496;
+
+const MOST_OUTPUT: i64 = 17179607040;
+
+fn mode_number(mode: Mode) -> i64
+    ensures { λ r. ⌜ r ≡ pos (modeNumber mode) ⌝ }
+{
+    match mode {
+        Mode::Manual => 0,
+        Mode::Automatic => 1,
+        Mode::Cascade => CASCADE,
+    }
+}
+
+fn mode_from(n: i64) -> Mode
+    ensures { λ r. ⌜ r ≡ modeFrom n ⌝ }
+{
+    if n < 1 {
+        Mode::Manual
+    } else if n < CASCADE {
+        Mode::Automatic
+    } else {
+        Mode::Cascade
+    }
+}
+
+fn flag_number(on: bool) -> i64
+    ensures { λ r. ⌜ r ≡ flag on ⌝ }
+{
+    if on { ON } else { 0 }
+}
+
+// A number is outside its range.
+fn outside(n: i64, low: i64, high: i64) -> bool
+    ensures { λ r. ⌜ r ≡ outsideRow (low to high) n ⌝ }
+{
+    (n < low) | (high < n)
+}
+
+// A number of a record is out of range: the rows of the table, spelled out.
+pub fn out_of_range(n: [i64; FIELDS]) -> bool
+    ensures { λ r. ⌜ r ≡ outOfRange n ⌝ }
+{
+    outside(n[MODE], 0, CASCADE)
+        | outside(n[BIAS], LEAST_BIAS, MOST_BIAS)
+        | outside(n[OUTPUT], 0, MOST_OUTPUT)
+        | outside(n[LAST_PV], 0, WORD)
+        | outside(n[PRIOR_PV], 0, WORD)
+        | outside(n[ERROR], LEAST_ERROR, WORD)
+        | outside(n[VELOCITY], 0, ON)
+        | outside(n[SAMPLED], 0, ON)
+}
+
+// The record that numbers in range stand for.
+pub fn record_of(n: [i64; FIELDS]) -> Carried
+    requires { ⌜ outOfRange n ≡ false ⌝ }
+    ensures { λ r. ⌜ r ≡ recordFrom n ⌝ }
+{
+    let mode = mode_from(n[MODE]);
+    let last = numbers::word_of(n[LAST_PV]);
+    let prior = numbers::word_of(n[PRIOR_PV]);
+    Carried {
+        state: State {
+            mode,
+            velocity: 0 < n[VELOCITY],
+        },
+        drive: Drive {
+            bias: n[BIAS],
+            output: n[OUTPUT],
+        },
+        past: Past {
+            last,
+            prior,
+            error: n[ERROR],
+        },
+        sampled: 0 < n[SAMPLED],
+    }
+}
+
+// A record's numbers, in the order of the layout.
+pub fn numbers_of(c: Carried) -> [i64; FIELDS]
+    ensures { λ r. ⌜ r ≡ numbersOf c ⌝ }
+{
+    let state = c.state;
+    let mode = state.mode;
+    let bias = c.drive.bias;
+    let output = c.drive.output;
+    let error = c.past.error;
+    [
+        mode_number(mode),
+        bias,
+        output,
+        c.past.last as i64,
+        c.past.prior as i64,
+        error,
+        flag_number(state.velocity),
+        flag_number(c.sampled),
+    ]
+}
+
+// The place of the record of loop k in the buffer.
+pub fn slot_of(k: u8) -> usize
+    ensures { λ r. ⌜ r ≡ slotOf k ⌝ }
+{
+    if k < 1 { 0 } else { FIELDS * (k as usize - 1) }
+}
+
+// The numbers of the record that starts at a place.
+pub fn numbers_at(numbers: &[i64], at: usize) -> [i64; FIELDS]
+    requires { ⌜ at + 8 ≤ length (now numbers) ⌝ }
+    ensures { λ r. ⌜ r ≡ numbersAt (now (numbers .entry)) at ⌝ }
+{
+    let mut found = [0; FIELDS];
+    let mut i = 0;
+    while i < FIELDS {
+        let n = numbers[at + i];
+        found[i] = n;
+        i += 1;
+    }
+    found
+}
+
+// A record's numbers stored from a place on.
+pub fn put_numbers(numbers: &mut [i64], at: usize, fields: [i64; FIELDS])
+    requires { ⌜ at + 8 ≤ length (now numbers) ⌝ }
+    ensures { λ _. ⌜ now (numbers .exit) ≡ sets (now (numbers .entry)) at fields ⌝ }
+{
+    let mut i = 0;
+    while i < FIELDS {
+        let n = fields[i];
+        numbers[at + i] = n;
+        i += 1;
+    }
+}

@@ -1,0 +1,117 @@
+-- Demand 2, proved.
+use Prim.Native.Nat.{ℕ, _+_, _≤_}
+use mathlib.Core.Path.{_≡_, refl, sym, ap, _∙_}
+use mathlib.Core.List.{List, _∷_}
+use lib.IntN.{ℤ}
+use lib.ListN.{length, getD}
+use lib.Seq.{length-sets}
+use Rattle.refusals.specs.declared.Answer.{Answer}
+use Rattle.refusals.specs.declared.Answer.the-variants.{Accepted, Refused}
+use Rattle.refusals.specs.declared.Refusal.the-variants.{Record}
+use Rattle.refusals.specs.Refusals.{numberOf, _⇒_, firstOf}
+use Rattle.refusals.specs.Refusals.Laws.{accepted-only}
+use Rattle.table.specs.declared.reading.Reading.{Reading}
+use Rattle.table.specs.Words.{baseOf, blockAt}
+use Rattle.table.specs.Reading.{readingOf}
+use Rattle.table.specs.Reading.Laws.{numbered, reading-local}
+use Rattle.carried.specs.declared.record.Carried.{Carried}
+use Rattle.carried.specs.Layout.{slotOf, outOfRange, recordFrom, numbersOf, numbersAt, recordAt}
+use Rattle.judging.specs.Judging.{readingCases}
+use Rattle.engine.specs.declared.stepping.Stepped.{Stepped}
+use Rattle.engine.specs.Sensing.{setpointOf, targetOf, sensedOf}
+use Rattle.engine.specs.Driving.{drivenOf}
+use Rattle.engine.specs.Writing.{writtenTo, statusWord, writtenOf}
+use Rattle.engine.specs.Writing.Laws.{written-length, written-other, written-block}
+use Rattle.engine.specs.Steps.{stepOf}
+use Rattle.desk.specs.Desk.{Desk, leftBy, readingAt, stepAt, sampleDone, sampleAnswer, sampleLeft}
+use Rattle.desk.specs.Desk.Laws.{sampled, own-numbers, other-numbers, answer-ranged}
+use Rattle.desk.specs.Lists.Laws.{by-answer, range-behind}
+use Rattle.claims.specs.Demand2.{Other, Agree, Demand2}
+
+-- ---- what a sample leaves
+
+exactly : (d : Desk) (k raw : ℕ) → numberOf (sampleAnswer d k raw) ≡ 0 → sampleLeft d k raw ≡ sampleDone d k raw
+unfolding sampleLeft
+exactly d k raw e = rw (accepted-only (sampleAnswer d k raw) e)
+
+words-kept : (d : Desk) (k raw i : ℕ) → Other k i → getD (sampleLeft d k raw .words) i 0 ≡ getD (d .words) i 0
+unfolding sampleLeft sampleDone
+words-kept d k raw i o =
+    by-answer (λ (e : Desk). getD (e .words) i 0 ≡ getD (d .words) i 0) (sampleAnswer d k raw)
+    (λ _. written-other (d .words) (baseOf k) (stepAt d k raw .written) i
+    (record { mode = o .mode; setpoint = o .setpoint; pv = o .pv; bias = o .bias; output = o .output; status = o .status })) refl
+
+records-kept : (d : Desk) (k raw j : ℕ) → 1 ≤ j → (j ≡ k → ⊥) → numbersAt (sampleLeft d k raw .numbers) (slotOf j) ≡ numbersAt (d .numbers) (slotOf j)
+unfolding sampleLeft
+records-kept d k raw j first other =
+    by-answer (λ (e : Desk). numbersAt (e .numbers) (slotOf j) ≡ numbersAt (d .numbers) (slotOf j)) (sampleAnswer d k raw)
+    (λ a. other-numbers d k raw (sampled d k raw a) j first other) refl
+
+lengths-kept : (d : Desk) (k raw : ℕ)
+    → (length (sampleLeft d k raw .words) ≡ length (d .words)) × (length (sampleLeft d k raw .numbers) ≡ length (d .numbers))
+unfolding sampleLeft sampleDone
+lengths-kept d k raw =
+    by-answer (λ (e : Desk). (length (e .words) ≡ length (d .words)) × (length (e .numbers) ≡ length (d .numbers))) (sampleAnswer d k raw)
+    (λ _. (written-length (d .words) (baseOf k) (stepAt d k raw .written), length-sets (d .numbers) (slotOf k) (numbersOf (stepAt d k raw .carried)))) (refl, refl)
+
+-- ---- two loops that agree
+
+-- a step does not look at the loop's number
+step-numbered : (k : ℕ) (r : Reading) (c : Carried) (raw : ℕ) → stepOf (numbered k r) c raw ≡ stepOf r c raw
+unfolding stepOf sensedOf targetOf setpointOf drivenOf writtenOf statusWord
+step-numbered k r c raw = refl
+
+module _ (d d′ : Desk) (k k′ raw : ℕ) (agree : Agree d d′ k k′) where
+  carried-same : recordAt (d .numbers) k ≡ recordAt (d′ .numbers) k′
+  carried-same = ap recordFrom (agree .numbers)
+
+  reading-same : readingAt d k ≡ numbered k (readingAt d′ k′)
+  reading-same =
+      reading-local (d .words) (d′ .words) k k′ (recordAt (d .numbers) k .state .mode) (agree .words) (agree .pointed)
+      ∙ ap (λ (c : Carried). numbered k (readingOf (d′ .words) k′ (c .state .mode))) carried-same
+
+  answer-same : sampleAnswer d k raw ≡ sampleAnswer d′ k′ raw
+  answer-same =
+      answer-ranged d k raw (agree .memory) (agree .loop .0) (agree .loop .1)
+      ∙ ap (λ (ns : List ℤ). firstOf ((outOfRange ns ⇒ Record) ∷ readingCases (readingAt d k) raw)) (agree .numbers)
+      ∙ ap (λ (r : Reading). firstOf ((outOfRange (numbersAt (d′ .numbers) (slotOf k′)) ⇒ Record) ∷ readingCases r raw)) reading-same
+      ∙ sym (answer-ranged d′ k′ raw (agree .memory′) (agree .loop′ .0) (agree .loop′ .1))
+
+  step-same : stepAt d k raw ≡ stepAt d′ k′ raw
+  step-same =
+      ap (λ (r : Reading). stepOf r (recordAt (d .numbers) k) raw) reading-same
+      ∙ ap (λ (c : Carried). stepOf (numbered k (readingAt d′ k′)) c raw) carried-same
+      ∙ step-numbered k (readingAt d′ k′) (recordAt (d′ .numbers) k′) raw
+
+  block-same : blockAt (sampleDone d k raw .words) (baseOf k) ≡ blockAt (sampleDone d′ k′ raw .words) (baseOf k′)
+  unfolding sampleDone
+  block-same = rw (written-block, written-block) (rw (agree .words, step-same))
+
+  numbers-same : sampleAnswer d k raw ≡ Accepted
+      → numbersAt (sampleDone d k raw .numbers) (slotOf k) ≡ numbersAt (sampleDone d′ k′ raw .numbers) (slotOf k′)
+  numbers-same a =
+      own-numbers d k raw (sampled d k raw a)
+      ∙ ap (λ (s : Stepped). numbersOf (s .carried)) step-same
+      ∙ sym (own-numbers d′ k′ raw (sampled d′ k′ raw (sym answer-same ∙ a)))
+
+  left-same : (a : Answer) → sampleAnswer d k raw ≡ a → let e = leftBy a (sampleDone d k raw) d in
+      let e′ = leftBy a (sampleDone d′ k′ raw) d′ in
+      (blockAt (e .words) (baseOf k) ≡ blockAt (e′ .words) (baseOf k′)) × (numbersAt (e .numbers) (slotOf k) ≡ numbersAt (e′ .numbers) (slotOf k′))
+  left-same Accepted e = (block-same, numbers-same e)
+  left-same (Refused why) e = (agree .words, agree .numbers)
+
+  alike : (sampleAnswer d k raw ≡ sampleAnswer d′ k′ raw)
+      × (blockAt (sampleLeft d k raw .words) (baseOf k) ≡ blockAt (sampleLeft d′ k′ raw .words) (baseOf k′))
+      × (numbersAt (sampleLeft d k raw .numbers) (slotOf k) ≡ numbersAt (sampleLeft d′ k′ raw .numbers) (slotOf k′))
+  unfolding sampleLeft
+  alike = let p = left-same (sampleAnswer d k raw) refl in rw (← answer-same) (refl, p .0, p .1)
+
+pub demand-2 : Demand2
+demand-2 = record {
+  exact = exactly;
+  other-words = words-kept;
+  other-records = records-kept;
+  lengths = lengths-kept;
+  local = alike;
+  ranges = λ k above below d calls h. range-behind k above below d calls h;
+}

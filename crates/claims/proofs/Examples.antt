@@ -1,0 +1,39 @@
+-- The computed examples of the crates below, named here so that none of them can go unnoticed.
+use mathlib.Core.Path.{_≡_}
+use mathlib.Core.List.{List, [], _∷_, map}
+use Rattle.carried.specs.Layout.{recordAt}
+use Rattle.reader.specs.File.{recordsOf, spansOf}
+use Rattle.reader.proofs.Examples as reader
+use Rattle.judging.proofs.Examples as judging
+use Rattle.engine.proofs.Starred as starred
+use Rattle.plain.specs.Plain.{begun}
+use Rattle.plain.proofs.Examples as plain
+use Rattle.desk.specs.Desk.{resetDesk}
+use Rattle.desk.proofs.Examples as desk
+use Rattle.session.specs.Printed.{printedOf}
+use Rattle.session.proofs.Worked as worked
+
+-- the examples of the table's first rows
+pub records-read : recordsOf reader.file ≡ map (λ (c : reader.Case). c .item) reader.cases
+records-read = reader.all-cases .0
+
+-- refusals 7 to 9 at their edges
+pub settings-judged : map judging.answer judging.cases ≡ map (λ (c : judging.Case). c .number) judging.cases
+settings-judged = judging.computed
+
+-- the starred cases, one claim
+pub starred-cases : map starred.given starred.starred ≡ map (λ (x : starred.Case). x .answers) starred.starred
+starred-cases = starred.all-starred
+
+-- the plain loop beside the engine
+pub plain-lists : map plain.from-reset (plain.loopA ∷ plain.counting ∷ plain.entered ∷ plain.cascaded ∷ [])
+    ≡ map (map plain.expected) (plain.loopA ∷ plain.counting ∷ plain.entered ∷ plain.cascaded ∷ [])
+plain-lists = plain.computed
+
+-- a list of calls on a desk
+pub desk-list : desk.rows resetDesk (begun (recordAt (resetDesk .numbers) 9)) desk.mixed ≡ map desk.expected desk.mixed
+desk-list = desk.computed
+
+-- the worked loop's printed lines
+pub worked-lines : printedOf worked.file ≡ worked.text
+worked-lines = worked.worked

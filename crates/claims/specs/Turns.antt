@@ -1,0 +1,45 @@
+-- What a C program can do to a desk, turn by turn: write anything into the words, and then make a call, perhaps with memory of the wrong length.
+use Prim.Native.Nat.{ℕ}
+use mathlib.Core.Bool.{cond}
+use mathlib.Core.List.{List, _++_}
+use lib.ListN.{take, drop}
+use Rattle.refusals.specs.Refusals.{numberOf}
+use Rattle.reader.specs.File.{recordsOf}
+use Rattle.desk.specs.Desk.{Desk, lent, fittingOf}
+use Rattle.desk.specs.Lists.{Call, answerTo, deskAfter, fed, plainBehind}
+use Rattle.plain.specs.Plain.{Plain}
+use Rattle.session.specs.Session.{callsOf, endedOf, leftOf}
+use Rattle.kexbardi_files.specs.Files.{endedBy}
+
+-- a reset, a store or a sample; or a whole drill file
+pub data Made : Type 0 where
+  one : Call → Made
+  file : List ℕ → Made
+
+-- the words as the caller changes them, of any length; how many of the numbers are lent (128 for a sound call); the call
+pub record Turn : Type 0 where
+  pub outside : List ℕ → List ℕ
+  pub lending : ℕ
+  pub made : Made
+
+-- the memory that the call is lent
+abbrev pub found : Desk → Turn → Desk
+found d t = lent (t .outside (d .words)) (take (t .lending) (d .numbers))
+
+-- what the call answers, and leaves of it
+unfoldable pub numberTo : Desk → Made → ℕ
+numberTo d (one call) = numberOf (answerTo d call)
+numberTo d (file bytes) = endedBy (endedOf bytes d) 0 0 .number
+
+unfoldable pub madeLeft : Desk → Made → Desk
+madeLeft d (one call) = deskAfter d call
+madeLeft d (file bytes) = leftOf bytes d
+
+-- the desk after the turn: the numbers that were not lent stand behind those that were
+abbrev pub behind : Desk → Turn → Desk
+behind d t = let e = madeLeft (found d t) (t .made) in lent (e .words) (e .numbers ++ drop (t .lending) (d .numbers))
+
+-- the plain loop of loop k after it; a file counts as its records, where its memory has its lengths
+unfoldable pub fedMade : ℕ → Plain → Desk → Made → Plain
+fedMade k q d (one call) = fed k q d call
+fedMade k q d (file bytes) = cond (fittingOf d) (plainBehind k q d (callsOf (recordsOf bytes))) q

@@ -1,0 +1,54 @@
+-- `desk::clear_numbers` meets its contract.
+use lib.IntN.{pos}
+use Rattle.desk.proofs.Clearing.{Cleared, clear-one, cleared}
+use lib.ListN.{length, length-set}
+use Prim.Native.Nat.{_-_}
+use mathlib.Core.Path.{refl}
+use native.Mathlib.Omega.{arith}
+use Rattle.desk.proofs.resetting.clear_numbers.Statement.{statement}
+use Rattle.desk.proofs.resetting.clear_numbers.Tie as tie
+
+abbrev Inv-loop : tie.InvT-loop
+Inv-loop numbers₀ i₀ numbers i = Cleared numbers₀ (pos 0) numbers i
+
+abbrev μ-loop : tie.MeasureT-loop
+μ-loop numbers₀ i₀ numbers i = length numbers - i
+
+loop-holds : tie.Need-loop-holds Inv-loop μ-loop
+loop-holds c = record { here = omega arith; same = refl; front = refl }
+
+mul-numbers : tie.Need-mul-numbers Inv-loop μ-loop
+mul-numbers c = omega arith
+
+slice-set-of-numbers : tie.Need-slice-set-of-numbers Inv-loop μ-loop
+slice-set-of-numbers c = omega arith
+
+add-i : tie.Need-add-i Inv-loop μ-loop
+add-i c = omega arith
+
+loop-less : tie.Need-loop-less Inv-loop μ-loop
+loop-less c = simp length-set (omega arith)
+
+loop-again : tie.Need-loop-again Inv-loop μ-loop
+loop-again c = clear-one (c .before .loop .inv) (c .loop-test .taken)
+
+same-length : tie.Need-same-length Inv-loop μ-loop
+same-length c = c .before .loop .inv .same
+
+returns : tie.Need-returns Inv-loop μ-loop
+returns c = cleared (c .before .loop .inv) (c .loop-test .left)
+
+pub clear-numbers-spec : {M : Type 1} → statement M
+clear-numbers-spec =
+    tie.close
+    (tie.spec
+    Inv-loop
+    μ-loop
+    loop-holds
+    mul-numbers
+    slice-set-of-numbers
+    add-i
+    loop-less
+    loop-again
+    same-length
+    returns)

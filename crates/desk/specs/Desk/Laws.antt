@@ -1,0 +1,129 @@
+-- The laws of the calls: a refused one leaves the desk, what an accepted one is known to be, and a loop's record after each.
+use Prim.Native.Nat.{ℕ, _+_, _≤_}
+use native.Mathlib.Omega.{arith}
+use mathlib.Core.Path.{_≡_, refl, sym, ap, _∙_}
+use mathlib.Core.Bool.{Bool, true, false, _&&_}
+use lib.Dec.{eqb}
+use mathlib.Core.List.{List, _∷_, _++_, flatten}
+use lib.IntN.{ℤ, pos}
+use lib.ListN.{length, getD, replicate, length-set}
+use lib.Seq.{sets, length-sets}
+use borrow.Author.Tests.{eqb-true, not-false, ltb-false, le-ltb}
+use Rattle.refusals.specs.declared.Refusal.{Refusal}
+use Rattle.refusals.specs.declared.Answer.{Answer}
+use Rattle.refusals.specs.declared.Answer.the-variants.{Accepted, Refused}
+use Rattle.refusals.specs.declared.Refusal.the-variants.{Record}
+use Rattle.refusals.specs.Refusals.{_⇒_, firstOf}
+use Rattle.refusals.specs.Refusals.Laws.{accepted-at, accepted-rest}
+use Rattle.table.specs.Words.{baseOf}
+use Rattle.carried.specs.declared.record.Carried.{Carried}
+use Rattle.carried.specs.Layout.{numberCount, slotOf, outOfRange, numbersOf, recordFrom, numbersAt, recordAt, resetRecord}
+use Rattle.carried.specs.Layout.Laws.{read-back, numbers-length, put-same, put-other, ranged, in-range}
+use Rattle.carried.specs.Ranged.{Ranged}
+use Rattle.judging.specs.Judging.{readingCases}
+use Rattle.engine.specs.Steps.Laws.{usable, stepped-ranged}
+use Rattle.engine.specs.Premises.{Usable}
+use Rattle.desk.specs.Desk.{Desk, lent, fittingOf, memoryCases, leftBy, resetDesk, resetAnswer, resetLeft, storeCases, storeAnswer, storeLeft, loopCases, readingAt, sampleCases, stepAt, sampleDone, sampleAnswer, sampleLeft, judgedAnswer, copiedBy}
+
+-- ---- any call
+
+-- the two promises of a call, for its answer a
+pub promised : (after before : Desk) {answer a : Answer} → answer ≡ a → (a ≡ answer) × (leftBy a after before ≡ leftBy answer after before)
+promised after before e = (sym e, rw e)
+
+pub copied : (found before : List ℤ) {answer a : Answer} → answer ≡ a → (a ≡ answer) × (copiedBy a found before ≡ copiedBy answer found before)
+copied found before e = (sym e, rw e)
+
+-- ---- memory of the right lengths
+
+pub record Sound (d : Desk) : Type 0 where
+  pub words : length (d .words) ≡ 1024
+  pub numbers : length (d .numbers) ≡ numberCount
+
+both : (a b : Bool) → (a && b) ≡ true → (a ≡ true) × (b ≡ true)
+both true b e = (refl, e)
+both false b e = let z : false ≡ true = e in (z, cc)
+
+pub sound : (d : Desk) → fittingOf d ≡ true → Sound d
+unfolding fittingOf
+sound d e =
+    let p = both (eqb (length (d .words)) 1024) (eqb (length (d .numbers)) numberCount) e in
+    record { words = eqb-true _ _ (p .0); numbers = eqb-true _ _ (p .1) }
+
+-- where a call with such a case is accepted
+pub fits : (d : Desk) → firstOf (memoryCases d) ≡ Accepted → fittingOf d ≡ true
+fits d e = not-false _ (accepted-at (memoryCases d) e 0)
+
+-- ---- an accepted sample
+
+pub record Sampled (d : Desk) (k raw : ℕ) : Type 0 where
+  pub memory : Sound d
+  pub above : 1 ≤ k
+  pub below : k ≤ 16
+  pub carried : Ranged (recordAt (d .numbers) k)
+  pub reading : Usable (readingAt d k) raw
+
+pub sampled : (d : Desk) (k raw : ℕ) → sampleAnswer d k raw ≡ Accepted → Sampled d k raw
+unfolding sampleAnswer
+sampled d k raw e =
+    let p = accepted-rest (memoryCases d) (loopCases (d .numbers) k ++ readingCases (readingAt d k) raw) e in
+    let q = accepted-rest (loopCases (d .numbers) k) (readingCases (readingAt d k) raw) (p .1) in
+    let no = accepted-at (loopCases (d .numbers) k) (q .0) in
+    record {
+      memory = sound d (fits d (p .0));
+      above = ltb-false _ _ (no 0);
+      below = ltb-false _ _ (no 1);
+      carried = ranged (numbersAt (d .numbers) (slotOf k)) (no 2);
+      reading = usable (d .words) k (recordAt (d .numbers) k .state .mode) raw (q .1);
+    }
+
+-- past 5 and 4 the record and the reading decide, and past 5 the reading
+pub answer-ranged : (d : Desk) (k raw : ℕ) → fittingOf d ≡ true → 1 ≤ k → k ≤ 16
+    → sampleAnswer d k raw ≡ firstOf ((outOfRange (numbersAt (d .numbers) (slotOf k)) ⇒ Record) ∷ readingCases (readingAt d k) raw)
+unfolding sampleAnswer
+answer-ranged d k raw fit above below = rw (fit, le-ltb k 1 above, le-ltb 16 k below)
+
+pub answer-judged : (d : Desk) (k raw : ℕ) → fittingOf d ≡ true → 1 ≤ k → k ≤ 16 → outOfRange (numbersAt (d .numbers) (slotOf k)) ≡ false
+    → sampleAnswer d k raw ≡ judgedAnswer d k raw
+answer-judged d k raw fit above below range = answer-ranged d k raw fit above below ∙ rw range
+
+-- its own record is the step's, in range again; another loop's stays
+module _ (d : Desk) (k raw : ℕ) (s : Sampled d k raw) where
+  pub own-numbers : numbersAt (sampleDone d k raw .numbers) (slotOf k) ≡ numbersOf (stepAt d k raw .carried)
+  unfolding sampleDone
+  own-numbers =
+      let next = stepAt d k raw .carried in
+      put-same (d .numbers) (numbersOf next) (slotOf k) (numbers-length next) (omega (arith, s .memory .numbers, s .above, s .below))
+
+  pub own-record : recordAt (sampleDone d k raw .numbers) k ≡ stepAt d k raw .carried
+  own-record = ap recordFrom own-numbers ∙ read-back (stepAt d k raw .carried)
+
+  pub own-range : outOfRange (numbersAt (sampleDone d k raw .numbers) (slotOf k)) ≡ false
+  own-range = ap outOfRange own-numbers ∙ in-range (stepAt d k raw .carried) (stepped-ranged (s .reading) (s .carried))
+
+  pub other-numbers : (j : ℕ) → 1 ≤ j → (j ≡ k → ⊥) → numbersAt (sampleDone d k raw .numbers) (slotOf j) ≡ numbersAt (d .numbers) (slotOf j)
+  unfolding sampleDone
+  other-numbers j first other =
+      let next = stepAt d k raw .carried in
+      put-other (d .numbers) (numbersOf next) k j (numbers-length next) (s .above) first other
+
+-- ---- reset
+
+-- the numbers at reset are 0 everywhere
+pub reset-numbers : resetDesk ≡ lent (replicate 1024 0) (replicate 128 (pos 0))
+unfolding resetDesk numbersOf resetRecord flatten
+reset-numbers = refl
+
+-- a reset of memory that has its lengths leaves that
+pub reset-sound : (d : Desk) → fittingOf d ≡ true → resetLeft d ≡ resetDesk
+unfolding resetLeft resetAnswer
+reset-sound d fit = rw fit
+
+-- and so what clearing both leaves is what a reset leaves
+pub reset-done : (d : Desk) → fittingOf d ≡ true → {ws : List ℕ} {ns : List ℤ} → ws ≡ replicate (length (d .words)) 0
+    → ns ≡ replicate (length (d .numbers)) (pos 0) → (Accepted ≡ resetAnswer d) × (lent ws ns ≡ resetLeft d)
+unfolding resetAnswer resetLeft
+reset-done d fit e f =
+    let s = sound d fit in
+    let answer : firstOf (memoryCases d) ≡ Accepted = rw fit in
+    (sym answer, rw (answer, e, f, s .words, s .numbers) (sym reset-numbers))

@@ -1,0 +1,74 @@
+// A sample of one loop: refused, or carried out and written back.
+use crate::memory::fitting;
+use carried::Carried;
+use carried::numbers_at;
+use carried::numbers_of;
+use carried::out_of_range;
+use carried::put_numbers;
+use carried::record_of;
+use carried::slot_of;
+use engine::write_words;
+use judging::judge;
+use refusals::Answer;
+use refusals::Refusal;
+use table::LOOPS;
+use table::read_loop;
+ghost use mathlib.Core.Path.{_≡_};
+ghost use Prim.Native.Nat.{_+_, _≤_};
+ghost use lib.ListN.{length};
+ghost use Rattle.table.specs.Words.{baseOf};
+ghost use Rattle.carried.specs.Layout.{slotOf, recordAt};
+ghost use Rattle.carried.specs.Ranged.{Ranged};
+ghost use Rattle.desk.specs.Desk.{lent, judgedAnswer, judgedLeft, sampleAnswer, sampleLeft};
+
+// A sample of a loop that there is, with its record, which is in range.
+fn carry_out(
+    words: &mut [u16],
+    numbers: &mut [i64],
+    carried: Carried,
+    number: u8,
+    raw: u16,
+) -> Answer
+    requires { ⌜ (baseOf number + 32 ≤ length (now words)) × (slotOf number + 8 ≤ length (now numbers)) ⌝ }
+    requires { ⌜ (carried ≡ recordAt (now numbers) number) × Ranged carried ⌝ }
+    ensures answer { λ r. ⌜ r ≡ judgedAnswer (lent (now (words .entry)) (now (numbers .entry))) number raw ⌝ }
+    ensures left { λ _. ⌜ lent (now (words .exit)) (now (numbers .exit)) ≡ judgedLeft (lent (now (words .entry)) (now (numbers .entry))) number raw ⌝ }
+{
+    let state = carried.state;
+    let former = state.mode;
+    let reading = read_loop(words, number, former);
+    let answer = judge(reading, raw);
+    match answer {
+        Answer::Refused(why) => Answer::Refused(why),
+        Answer::Accepted => {
+            let done = engine::step(reading, carried, raw);
+            let written = done.written;
+            let next = done.carried;
+            write_words(words, number, written);
+            put_numbers(numbers, slot_of(number), numbers_of(next));
+            Answer::Accepted
+        }
+    }
+}
+
+// A sample of loop `number` with the raw PV `raw`.
+pub fn sample(words: &mut [u16], numbers: &mut [i64], number: u8, raw: u16) -> Answer
+    ensures answer { λ r. ⌜ r ≡ sampleAnswer (lent (now (words .entry)) (now (numbers .entry))) number raw ⌝ }
+    ensures left { λ _. ⌜ lent (now (words .exit)) (now (numbers .exit)) ≡ sampleLeft (lent (now (words .entry)) (now (numbers .entry))) number raw ⌝ }
+{
+    if !fitting(words, numbers) {
+        return Answer::Refused(Refusal::Memory);
+    }
+    if number < 1 {
+        return Answer::Refused(Refusal::Loop);
+    }
+    if LOOPS < number {
+        return Answer::Refused(Refusal::Loop);
+    }
+    let found = numbers_at(numbers, slot_of(number));
+    if out_of_range(found) {
+        return Answer::Refused(Refusal::Record);
+    }
+    let carried = record_of(found);
+    carry_out(words, numbers, carried, number, raw)
+}

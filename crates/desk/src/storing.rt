@@ -1,0 +1,38 @@
+// A word stored into the lent table.
+use crate::memory::fitting;
+use refusals::Answer;
+use refusals::Refusal;
+use table::WORDS;
+ghost use mathlib.Core.Path.{_≡_};
+ghost use Rattle.desk.specs.Desk.{lent, engineWord, storeAnswer, storeLeft};
+
+const FIRST_FREE: u16 = 512; // words from here on belong to no loop
+
+const LAST_ADDRESS: u16 = WORDS as u16 - 1;
+
+// The words of a loop that only the engine writes: PV, bias, status and ramp/soak errors.
+fn engine_word(address: u16) -> bool
+    ensures { λ r. ⌜ r ≡ engineWord address ⌝ }
+{
+    (address < FIRST_FREE)
+        & ((address % 32 == 3) | (address % 32 == 4) | (address % 32 == 6) | (address % 32 == 29))
+}
+
+// No record is looked at; the numbers are lent whole all the same, as to every call.
+pub fn store(words: &mut [u16], numbers: &mut [i64], address: u16, value: u16) -> Answer
+    ensures answer { λ r. ⌜ r ≡ storeAnswer (lent (now (words .entry)) (now (numbers .entry))) address ⌝ }
+    ensures left { λ _. ⌜ lent (now (words .exit)) (now (numbers .exit)) ≡ storeLeft (lent (now (words .entry)) (now (numbers .entry))) address value ⌝ }
+{
+    if !fitting(words, numbers) {
+        return Answer::Refused(Refusal::Memory);
+    }
+    if LAST_ADDRESS < address {
+        return Answer::Refused(Refusal::Store);
+    }
+    if engine_word(address) {
+        return Answer::Refused(Refusal::Store);
+    }
+    let at = address as usize;
+    words[at] = value;
+    Answer::Accepted
+}

@@ -1,0 +1,44 @@
+-- `engine::step` meets its contract, by what its callees ensure; that the terms can run follows from acceptance (`drivable`).
+use borrow.Author.Needs.{needs}
+use Rattle.table.specs.Modes.{isManual}
+use Rattle.engine.specs.Driving.{drivenOf}
+use Rattle.engine.specs.Steps.{stepOf}
+use Rattle.engine.specs.Steps.Laws.{drivable}
+use Rattle.engine.specs.Driving.Laws.{moved-output}
+use Rattle.engine.proofs.stepping.step.Statement.{statement}
+use Rattle.engine.proofs.stepping.step.Tie as tie
+
+sensed-by-requires : tie.Need-sensed-by-requires
+sensed-by-requires c κs = c .before .before .pre .0 .some
+
+held-word-requires : tie.Need-held-word-requires
+held-word-requires c κs = search needs
+
+driven-requires : tie.Need-driven-requires
+driven-requires c κs = simp (c .held-word .ensures, c .before .sensed-by .ensures) (let p = c .before .before .before .before .pre in drivable (p .0) (p .1))
+
+words-after-requires : tie.Need-words-after-requires
+unfolding drivenOf
+words-after-requires c κs =
+    let s = c .before .before .before .before .before in
+    simp (c .driven .ensures, c .before .held-word .ensures, c .before .before .sensed-by .ensures)
+    (moved-output (drivable (s .pre .0) (s .pre .1)) (isManual (s .args .reading .mode)))
+
+next-record-requires : tie.Need-next-record-requires
+next-record-requires c κs = search needs
+
+returns : tie.Need-returns
+unfolding stepOf
+returns c =
+    simp (
+      c .next-record .ensures,
+      c .before .words-after .ensures,
+      c .before .before .driven .ensures,
+      c .before .before .before .held-word .ensures,
+      c .before .before .before .before .sensed-by .ensures,
+    )
+
+pub step-spec : {M : Type 1} → statement M
+step-spec =
+    tie.close
+    (tie.spec sensed-by-requires held-word-requires driven-requires words-after-requires next-record-requires returns)

@@ -1,0 +1,69 @@
+-- What drives the valve: document 01's steps 6 to 9, from where step 4 starts bias and output.
+use Prim.Native.Nat.{ℕ, _*_}
+use mathlib.Core.Bool.{Bool, cond, not, _||_}
+use lib.IntN.{ℤ, pos, _+ℤ_, _-ℤ_}
+use Rattle.numbers.specs.Limits.{clampℕ}
+use Rattle.numbers.specs.Rounding.{unitsOf}
+use Rattle.table.specs.declared.settings.Settings.{Settings}
+use Rattle.table.specs.declared.reading.Reading.{Reading}
+use Rattle.table.specs.Modes.{isManual}
+use Rattle.control.specs.declared.terms.Inputs.{Inputs}
+use Rattle.control.specs.declared.terms.Terms.{Terms}
+use Rattle.control.specs.declared.forms.Drive.{Drive}
+use Rattle.control.specs.Terms.{termsOf}
+use Rattle.control.specs.Forms.{positionOf, velocityOf}
+use Rattle.carried.specs.declared.record.Past.{Past}
+use Rattle.carried.specs.declared.record.Carried.{Carried}
+use Rattle.engine.specs.declared.sensing.Sensed.{Sensed}
+pub mod Laws
+
+-- step 4: word 5 brought to the nearer output limit
+unfoldable pub heldOf : Settings → ℕ
+heldOf s = clampℕ (s .stored .output) (s .limits .low) (s .limits .high)
+
+-- step 4: at an entry bias and carried output become that
+unfoldable pub startOf : Bool → ℕ → Drive → Drive
+startOf entry held drive = cond entry (record { bias = pos (unitsOf held); output = pos (unitsOf held) }) drive
+
+-- step 6: at the first accepted sample, and at an entry, both last PVs count as p and the last error as e
+unfoldable pub pastOf : Bool → Past → ℕ → ℤ → Past
+pastOf fresh kept p e = cond fresh (record { last = p; prior = p; error = e }) kept
+
+-- step 7: what the terms act on in position form
+unfoldable pub positionInputs : Past → ℕ → ℤ → Inputs
+positionInputs past p e = record { p = e; i = e; d = pos p -ℤ pos (past .last) }
+
+-- step 9: what they act on in velocity form
+unfoldable pub velocityInputs : Past → ℕ → ℤ → Inputs
+velocityInputs past p e = record { p = e -ℤ past .error; i = e; d = (pos p -ℤ pos (2 * past .last)) +ℤ pos (past .prior) }
+
+-- by the form
+abbrev pub inputsOf : Bool → Past → ℕ → ℤ → Inputs
+inputsOf velocity past p e = cond velocity (velocityInputs past p e) (positionInputs past p e)
+
+-- the terms with the loop's settings
+unfoldable pub termsIn : Settings → Inputs → Terms
+termsIn s x = termsOf (s .tuning) (s .mode2 .minutes) (s .mode1 .reverse) x
+
+abbrev pub lowUnits : Settings → ℤ
+lowUnits s = pos (unitsOf (s .limits .low))
+
+abbrev pub highUnits : Settings → ℤ
+highUnits s = pos (unitsOf (s .limits .high))
+
+unfoldable pub movedPosition : Settings → Drive → Past → ℕ → ℤ → Drive
+movedPosition s drive past p e = positionOf (s .mode1 .freeze) drive (termsIn s (positionInputs past p e)) (lowUnits s) (highUnits s)
+
+unfoldable pub movedVelocity : Settings → Drive → Past → ℕ → ℤ → Drive
+movedVelocity s drive past p e = velocityOf drive (termsIn s (velocityInputs past p e)) (lowUnits s) (highUnits s)
+
+-- steps 8 and 9; Manual runs no terms and leaves bias and carried output (step 10)
+unfoldable pub movedOf : Settings → Bool → Drive → Past → ℕ → ℤ → Drive
+movedOf s manual drive past p e =
+    cond manual drive (cond (s .mode1 .velocity) (movedVelocity s drive past p e) (movedPosition s drive past p e))
+
+-- steps 6 to 9 together, `held` being word 5 inside the limits
+unfoldable pub drivenOf : Reading → Carried → Sensed → ℕ → Drive
+drivenOf r c x held =
+    movedOf (r .settings) (isManual (r .mode)) (startOf (x .entry) held (c .drive))
+    (pastOf (not (c .sampled) || x .entry) (c .past) (x .pv) (x .error)) (x .pv) (x .error)

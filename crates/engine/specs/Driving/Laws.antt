@@ -1,0 +1,119 @@
+-- The laws of what drives the valve: the terms of an accepted sample fit, the output is within its limits, and bias and output within their ranges.
+use Prim.Native.Nat.{ℕ, _*_, _^_, _≤_}
+use native.Mathlib.Omega.{arith}
+use mathlib.Core.Bool.{Bool, true, false}
+use lib.IntN.{ℤ, pos, natAbs, _+ℤ_, _-ℤ_}
+use lib.Signed.{_≤ℤ_}
+use Rattle.numbers.specs.Whole.{linear, add, sub, abs, abs-in, abs-sub}
+use Rattle.numbers.specs.Limits.Laws.{by-test, clamped, orderℕ}
+use Rattle.numbers.specs.Rounding.{unitsOf}
+use Rattle.table.specs.declared.settings.Settings.{Settings}
+use Rattle.control.specs.declared.forms.Drive.{Drive}
+use Rattle.control.specs.declared.terms.Inputs.{Inputs}
+use Rattle.control.specs.Premises.{Bounded, Ready}
+use Rattle.control.specs.Terms.Laws.{terms-high, terms-close}
+use Rattle.control.specs.Forms.{velocityOf}
+use Rattle.control.specs.Forms.Laws.{Inside, position-inside, velocity-inside, position-bias}
+use Rattle.carried.specs.declared.record.Past.{Past}
+use Rattle.engine.specs.Driving.{heldOf, startOf, pastOf, positionInputs, velocityInputs, inputsOf, termsIn, lowUnits, highUnits, movedPosition, movedVelocity, movedOf}
+use Rattle.engine.specs.Premises.{Counted, Movable}
+
+-- word 5 brought to the nearer limit is within the limits
+pub held-low : (s : Settings) → s .limits .low ≤ s .limits .high → s .limits .low ≤ heldOf s
+unfolding heldOf
+held-low s l = clamped orderℕ l (s .stored .output) .low
+
+pub held-high : (s : Settings) → s .limits .low ≤ s .limits .high → heldOf s ≤ s .limits .high
+unfolding heldOf
+held-high s l = clamped orderℕ l (s .stored .output) .high
+
+-- ---- where the terms start, whether the sample is an entry or the first one or not
+
+pub start-bias : (entry : Bool) {held : ℕ} (drive : Drive) → held ≤ 65535 → natAbs (drive .bias) ≤ 2 ^ 52
+    → natAbs (startOf entry held drive .bias) ≤ 2 ^ 52
+unfolding startOf
+start-bias entry {held} drive h l = by-test (λ (d : Drive). natAbs (d .bias) ≤ 2 ^ 52) entry (λ _. omega arith) (λ _. l)
+
+counted : (n : ℕ) → n ≤ 65535 → Counted (pos (unitsOf n))
+counted n h = record { low = omega (arith, linear); high = omega (arith, linear) }
+
+pub start-output : (entry : Bool) {held : ℕ} (drive : Drive) → held ≤ 65535 → Counted (drive .output) → Counted (startOf entry held drive .output)
+unfolding startOf
+start-output entry {held} drive h l = by-test (λ (d : Drive). Counted (d .output)) entry (λ _. counted held h) (λ _. l)
+
+pub record Remembered (past : Past) : Type 0 where
+  pub last : past .last ≤ 65535
+  pub prior : past .prior ≤ 65535
+  pub error : natAbs (past .error) ≤ 65535
+
+pub past-high : (fresh : Bool) (kept : Past) {p : ℕ} (e : ℤ) → p ≤ 65535 → natAbs e ≤ 65535 → Remembered kept → Remembered (pastOf fresh kept p e)
+unfolding pastOf
+past-high fresh kept e h l m = by-test Remembered fresh (λ _. record { last = h; prior = h; error = l }) (λ _. m)
+
+-- ---- what the terms act on, and so how large they are
+
+module _ {s : Settings} {drive : Drive} {past : Past} {p : ℕ} {e : ℤ} (m : Movable s drive past p e) where
+  pub position-bounded : Bounded (positionInputs past p e)
+  unfolding positionInputs
+  position-bounded =
+      let change = pos p -ℤ pos (past .last) in
+      record { p = omega (arith, m .error); i = m .error; d = abs-in change (omega (arith, sub (pos p) (pos (past .last)), m .pv, m .last)) }
+
+  pub velocity-bounded : Bounded (velocityInputs past p e)
+  unfolding velocityInputs
+  velocity-bounded =
+      let first = pos p -ℤ pos (2 * past .last) in
+      let change = first +ℤ pos (past .prior) in
+      record {
+        p = omega (arith, abs-sub e (past .error), m .error, m .recorded);
+        i = m .error;
+        d = abs-in change (omega (arith, add first (pos (past .prior)), sub (pos p) (pos (2 * past .last)), m .pv, m .last, m .prior));
+      }
+
+  pub inputs-bounded : (velocity : Bool) → Bounded (inputsOf velocity past p e)
+  inputs-bounded true = velocity-bounded
+  inputs-bounded false = position-bounded
+
+  -- so no sum of the moves leaves 64 bits
+  pub ready : (x : Inputs) → Bounded x → Ready drive (termsIn s x) (lowUnits s) (highUnits s)
+  unfolding termsIn
+  ready x b =
+      record {
+        bias = m .bias;
+        output = omega (arith, linear, m .output .low, m .output .high, abs (drive .output));
+        terms = terms-high (m .tuned) (s .mode2 .minutes) (s .mode1 .reverse) x b;
+        low = omega (arith, m .limits, m .high);
+        high = omega (arith, m .high);
+      }
+
+-- ---- what the moves leave
+
+limits-units : (s : Settings) → s .limits .low ≤ s .limits .high → lowUnits s ≤ℤ highUnits s
+limits-units s l = omega (arith, linear)
+
+module _ {s : Settings} {drive : Drive} {past : Past} {p : ℕ} {e : ℤ} (m : Movable s drive past p e) where
+  -- the output is within its limits
+  pub moved-inside : Inside (lowUnits s) (highUnits s) (movedOf s false drive past p e .output)
+  unfolding movedOf movedPosition movedVelocity
+  moved-inside =
+      by-test (λ (d : Drive). Inside (lowUnits s) (highUnits s) (d .output)) (s .mode1 .velocity)
+      (λ _. velocity-inside drive (termsIn s (velocityInputs past p e)) (limits-units s (m .limits)))
+      (λ _. position-inside (s .mode1 .freeze) drive (termsIn s (positionInputs past p e)) (limits-units s (m .limits)))
+
+  -- the carried output is within its range, in Manual too
+  pub moved-output : (manual : Bool) → Counted (movedOf s manual drive past p e .output)
+  unfolding movedOf
+  moved-output true = m .output
+  moved-output false =
+      let i = moved-inside in
+      record { low = omega (arith, linear, i .low); high = omega (arith, linear, i .high, m .high) }
+
+  -- the carried bias is within its range
+  pub moved-bias : (manual : Bool) → natAbs (movedOf s manual drive past p e .bias) ≤ 2 ^ 52
+  unfolding movedOf movedPosition movedVelocity velocityOf termsIn positionInputs
+  moved-bias true = m .bias
+  moved-bias false =
+      let x = positionInputs past p e in
+      let close = terms-close (m .tuned) (s .mode2 .minutes) (s .mode1 .reverse) x (m .error) (abs-in (pos p -ℤ pos (past .last)) (omega (arith, sub (pos p) (pos (past .last))))) in
+      by-test (λ (d : Drive). natAbs (d .bias) ≤ 2 ^ 52) (s .mode1 .velocity) (λ _. m .bias)
+      (λ _. position-bias (s .mode1 .freeze) drive (termsIn s x) (m .bias) close (omega arith) (omega arith) (limits-units s (m .limits)))

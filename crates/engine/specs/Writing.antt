@@ -1,0 +1,67 @@
+-- What a sample writes: document 01's steps 10 and 11, six words and the record that the loop carries on.
+use Prim.Native.Nat.{ℕ, _+_}
+use mathlib.Core.Bool.{Bool, true, cond, _||_}
+use mathlib.Core.List.{List}
+use lib.ListN.{set}
+use lib.IntN.{ℤ, pos, natAbs}
+use Rattle.numbers.specs.Limits.{clampℤ}
+use Rattle.numbers.specs.Rounding.{unitsOf, nearestCount}
+use Rattle.table.specs.declared.reading.Reading.{Reading}
+use Rattle.table.specs.Words.{clearRequests}
+use Rattle.table.specs.Modes.{isManual}
+use Rattle.control.specs.declared.forms.Drive.{Drive}
+use Rattle.alarms.specs.declared.status.Seen.{Seen}
+use Rattle.alarms.specs.Status.{statusOf, bitsOf, wordOf}
+use Rattle.carried.specs.declared.record.Carried.{Carried}
+use Rattle.engine.specs.declared.sensing.Sensed.{Sensed}
+use Rattle.engine.specs.declared.writing.Written.{Written}
+pub mod Laws
+
+-- step 10: word 5 is the output in the nearest count, halves up; in Manual, word 5 brought to the nearer limit
+unfoldable pub outputWord : Bool → ℕ → ℤ → ℕ
+outputWord manual held output = cond manual held (nearestCount (natAbs output))
+
+-- step 10: position form writes the bias, brought into 0 to F, in the nearest count; velocity form and Manual leave word 4
+unfoldable pub biasWord : Bool → ℕ → ℕ → ℤ → ℕ
+biasWord kept stored scale bias = cond kept stored (nearestCount (natAbs (clampℤ bias (pos 0) (pos (unitsOf scale)))))
+
+-- word 6
+unfoldable pub statusWord : Reading → Carried → Sensed → ℕ → ℕ
+statusWord r c x output =
+    let s = r .settings in
+    let seen : Seen = record { pv = x .pv; setpoint = x .setpoint; last = c .past .last; sampled = c .sampled; output = output } in
+    wordOf (bitsOf (statusOf (r .mode) (s .mode1) (s .alarms) (s .limits) (s .stored .status) seen))
+
+-- the six words: mode 1 with its requests cleared (step 2), setpoint (3, 4), PV (11), bias and output (10), status
+unfoldable pub writtenOf : Reading → Carried → Sensed → ℕ → Drive → Written
+writtenOf r c x held drive =
+    let s = r .settings in
+    let output = outputWord (isManual (r .mode)) held (drive .output) in
+    record {
+      word = clearRequests (s .stored .word);
+      setpoint = x .setpoint;
+      pv = x .pv;
+      bias = biasWord (isManual (r .mode) || s .mode1 .velocity) (s .stored .bias) (s .mode2 .output .scale) (drive .bias);
+      output = output;
+      status = statusWord r c x output;
+    }
+
+-- and where they go: words 0, 2, 3, 4, 5 and 6 of the loop at `base`
+unfoldable pub writtenTo : List ℕ → ℕ → Written → List ℕ
+writtenTo ws base w =
+    set
+    (set
+    (set (set (set (set ws base (w .word)) (base + 2) (w .setpoint)) (base + 3) (w .pv)) (base + 4) (w .bias))
+    (base + 5)
+    (w .output))
+    (base + 6)
+    (w .status)
+
+-- step 11, in every mode: the last PV moves to the one before (p at the first accepted sample), p becomes the last, error and algorithm are recorded
+unfoldable pub nextOf : Carried → Sensed → Drive → Carried
+nextOf c x drive = record {
+  state = x .state;
+  drive = drive;
+  past = record { last = x .pv; prior = cond (c .sampled) (c .past .last) (x .pv); error = x .error };
+  sampled = true;
+}

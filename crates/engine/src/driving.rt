@@ -1,0 +1,139 @@
+// What drives the valve (steps 6 to 9): where bias and output start, what counts as the past, the terms, and
+// the two forms.
+use crate::sensing::Sensed;
+use carried::Carried;
+use carried::Past;
+use control::Drive;
+use control::Inputs;
+use control::Terms;
+use table::Reading;
+use table::Settings;
+use table::is_manual;
+ghost use mathlib.Core.Path.{_≡_};
+ghost use Prim.Native.Nat.{_≤_};
+ghost use lib.IntN.{natAbs};
+ghost use Rattle.control.specs.Premises.{Tuned, Bounded};
+ghost use Rattle.engine.specs.Driving.{heldOf, startOf, pastOf, positionInputs, velocityInputs, inputsOf, termsIn, movedOf, drivenOf};
+ghost use Rattle.engine.specs.Premises.{Movable, Drivable};
+
+// Step 4: word 5 brought to the nearer output limit.
+pub(crate) fn held_word(s: Settings) -> u16
+    ensures { λ r. ⌜ r ≡ heldOf s ⌝ }
+{
+    numbers::clamp_word(s.stored.output, s.limits.low, s.limits.high)
+}
+
+// Step 4: bias and output to start from.
+fn started(entry: bool, held: u16, drive: Drive) -> Drive
+    ensures { λ r. ⌜ r ≡ startOf entry held drive ⌝ }
+{
+    if entry {
+        let units = numbers::units(held);
+        Drive {
+            bias: units,
+            output: units,
+        }
+    } else {
+        drive
+    }
+}
+
+// Step 6: what counts as the past for the terms.
+fn past_for(fresh: bool, kept: Past, pv: u16, error: i64) -> Past
+    ensures { λ r. ⌜ r ≡ pastOf fresh kept pv error ⌝ }
+{
+    if fresh {
+        Past {
+            last: pv,
+            prior: pv,
+            error,
+        }
+    } else {
+        kept
+    }
+}
+
+// The terms of a sample with the loop's settings.
+fn terms_in(s: Settings, inputs: Inputs) -> Terms
+    requires { ⌜ Tuned (s .tuning) × Bounded inputs ⌝ }
+    ensures { λ r. ⌜ r ≡ termsIn s inputs ⌝ }
+{
+    let tuning = s.tuning;
+    control::terms_of(tuning, s.mode2.minutes, s.mode1.reverse, inputs)
+}
+
+// What the terms act on in position form.
+fn position_inputs(past: Past, pv: u16, e: i64) -> Inputs
+    ensures { λ r. ⌜ r ≡ positionInputs past pv e ⌝ }
+{
+    let change = numbers::difference(pv, past.last);
+    Inputs {
+        p: e,
+        i: e,
+        d: change,
+    }
+}
+
+// What they act on in velocity form. The second difference is the change less the one before.
+fn velocity_inputs(past: Past, pv: u16, e: i64) -> Inputs
+    requires { ⌜ (natAbs (past .error) ≤ 65535) × (natAbs e ≤ 65535) ⌝ }
+    ensures { λ r. ⌜ r ≡ velocityInputs past pv e ⌝ }
+{
+    let change = numbers::difference(pv, past.last);
+    let before = numbers::difference(past.last, past.prior);
+    Inputs {
+        p: e - past.error,
+        i: e,
+        d: change - before,
+    }
+}
+
+// What they act on in the loop's form.
+fn inputs_for(velocity: bool, past: Past, pv: u16, e: i64) -> Inputs
+    requires { ⌜ (natAbs (past .error) ≤ 65535) × (natAbs e ≤ 65535) ⌝ }
+    ensures { λ r. ⌜ r ≡ inputsOf velocity past pv e ⌝ }
+{
+    if velocity {
+        velocity_inputs(past, pv, e)
+    } else {
+        position_inputs(past, pv, e)
+    }
+}
+
+// Steps 7 to 9: the bias and output after the sample. Manual runs no terms.
+fn moved(s: Settings, manual: bool, drive: Drive, past: Past, pv: u16, e: i64) -> Drive
+    requires { ⌜ Movable s drive past pv e ⌝ }
+    ensures { λ r. ⌜ r ≡ movedOf s manual drive past pv e ⌝ }
+{
+    if manual {
+        return drive;
+    }
+    let terms = terms_in(s, inputs_for(s.mode1.velocity, past, pv, e));
+    let low = numbers::units(s.limits.low);
+    let high = numbers::units(s.limits.high);
+    if s.mode1.velocity {
+        control::velocity(drive, terms, low, high)
+    } else {
+        control::position(s.mode1.freeze, drive, terms, low, high)
+    }
+}
+
+// Steps 6 to 9: the bias and output after the sample. `held` is word 5 inside the limits.
+pub(crate) fn driven(reading: Reading, carried: Carried, sensed: Sensed, held: u16) -> Drive
+    requires { ⌜ Drivable reading carried sensed held ⌝ }
+    ensures { λ r. ⌜ r ≡ drivenOf reading carried sensed held ⌝ }
+{
+    let s = reading.settings;
+    let mode = reading.mode;
+    let kept = carried.past;
+    let before = carried.drive;
+    let manual = is_manual(mode);
+    let start = started(sensed.entry, held, before);
+    let past = past_for(
+        !carried.sampled | sensed.entry,
+        kept,
+        sensed.pv,
+        sensed.error,
+    );
+    moved(s, manual, start, past, sensed.pv, sensed.error)
+}

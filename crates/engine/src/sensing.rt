@@ -1,0 +1,106 @@
+// What a sample senses (steps 1 to 5): the PV, the mode, whether the sample is an entry, the setpoint and
+// the error.
+use carried::State;
+use table::Mode;
+use table::Reading;
+use table::Settings;
+use table::is_automatic;
+use table::is_cascade;
+use table::is_manual;
+ghost use mathlib.Core.Path.{_≡_};
+ghost use Prim.Native.Nat.{_<_};
+ghost use Rattle.engine.specs.Sensing.{pvOf, setpointOf, entering, targetOf, errorIn, sensedOf};
+
+// The PV, the setpoint and the error; whether the sample is an entry; and the loop's state after it.
+pub struct Sensed {
+    pub pv: u16,
+    pub entry: bool,
+    pub setpoint: u16,
+    pub error: i64,
+    pub state: State,
+}
+
+// Step 1: the PV, or the root of it.
+fn measured(root: bool, scale: u16, raw: u16) -> u16
+    ensures { λ r. ⌜ r ≡ pvOf root scale raw ⌝ }
+{
+    if root {
+        numbers::root(raw as u32 * scale as u32)
+    } else {
+        raw
+    }
+}
+
+// Step 3: the setpoint.
+fn own_setpoint(reading: Reading) -> u16
+    ensures { λ r. ⌜ r ≡ setpointOf reading ⌝ }
+{
+    let mode = reading.mode;
+    let cascade = is_cascade(mode);
+    if cascade {
+        reading.remote
+    } else {
+        reading.settings.stored.setpoint
+    }
+}
+
+// Step 4: whether the sample enters automatic working.
+fn enters(state: State, mode: Mode, velocity: bool) -> bool
+    ensures { λ r. ⌜ r ≡ entering state mode velocity ⌝ }
+{
+    let former = state.mode;
+    let was = is_manual(former);
+    let is = is_manual(mode);
+    !is & (was | (state.velocity != velocity))
+}
+
+// Steps 3 and 4: the setpoint, forced to the PV at an entry to Automatic with Bumpless I.
+fn target_of(reading: Reading, entry: bool, pv: u16) -> u16
+    ensures { λ r. ⌜ r ≡ targetOf reading entry pv ⌝ }
+{
+    let mode = reading.mode;
+    let automatic = is_automatic(mode);
+    if entry & automatic & !reading.settings.mode1.bumpless {
+        pv
+    } else {
+        own_setpoint(reading)
+    }
+}
+
+// Step 5 with the loop's settings.
+fn error_in(s: Settings, target: u16, pv: u16) -> i64
+    requires { ⌜ 0 < s .mode2 .output .scale ⌝ }
+    ensures { λ r. ⌜ r ≡ errorIn s target pv ⌝ }
+{
+    control::error(
+        s.mode1.squared,
+        s.mode2.output.scale,
+        s.mode1.deadband,
+        s.deadband,
+        target,
+        pv,
+    )
+}
+
+// Steps 1 to 5, from the loop's state so far.
+pub(crate) fn sensed_by(reading: Reading, state: State, raw: u16) -> Sensed
+    requires { ⌜ 0 < reading .settings .mode2 .output .scale ⌝ }
+    ensures { λ r. ⌜ r ≡ sensedOf reading state raw ⌝ }
+{
+    let s = reading.settings;
+    let mode = reading.mode;
+    let pv = measured(s.mode1.root, s.mode2.input.scale, raw);
+    let entry = enters(state, mode, s.mode1.velocity);
+    let setpoint = target_of(reading, entry, pv);
+    let error = error_in(s, setpoint, pv);
+    Sensed {
+        pv,
+        entry,
+        setpoint,
+        error,
+        state: State {
+            mode,
+            velocity: s.mode1.velocity,
+        },
+    }
+}

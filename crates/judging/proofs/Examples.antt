@@ -1,0 +1,64 @@
+-- Refusals 7, 8 and 9 computed of the definitions: each setting at its edge, and several conditions at once.
+use Prim.Native.Nat.{ℕ}
+use mathlib.Core.Path.{_≡_, refl}
+use mathlib.Core.List.{List, [], _∷_, map}
+use lib.ListN.{set, replicate}
+use Rattle.refusals.specs.Refusals.{numberOf, firstOf}
+use Rattle.table.specs.declared.mode.Mode.the-variants.{Manual}
+use Rattle.table.specs.Words.{bcd, badDigit}
+use Rattle.table.specs.Settings.{mode2Of, badDigits, tuningOf, settingsOf}
+use Rattle.table.specs.Reading.{modeAfter, remoteOf, readingOf}
+use Rattle.judging.specs.Judging.{readingCases}
+
+-- words of loop 1 changed, a raw PV, and the number expected
+pub record Case : Type 0 where
+  pub write : List ℕ → List ℕ
+  pub raw : ℕ
+  pub number : ℕ
+
+-- the worked loop's settings, and some free words behind the loop's
+worked : List ℕ
+worked = set (set (set (set (set (set (replicate 64 0) 0 2) 5 2000) 7 0x0100) 8 0x0200) 9 0x1000) 25 4095
+
+case : (List ℕ → List ℕ) → ℕ → ℕ → Case
+case write raw number = record { write = write; raw = raw; number = number }
+
+word : ℕ → ℕ → List ℕ → List ℕ
+word at value ws = set ws at value
+
+pub cases : List Case
+cases =
+    case (λ ws. ws) 4095 0
+    ∷ case (λ ws. ws) 4096 9
+    ∷ case (word 8 0x000A) 0 7
+    ∷ case (λ ws. word 8 0x000A (word 7 4 ws)) 0 7
+    ∷ case (λ ws. word 9 0 ws) 4096 8
+    ∷ case (word 7 0x0004) 0 8
+    ∷ case (word 7 0x0005) 0 0
+    ∷ case (word 24 4095) 0 0
+    ∷ case (λ ws. word 24 1001 (word 25 1000 ws)) 0 8
+    ∷ case (word 25 4096) 0 8
+    ∷ case (word 0 40) 0 8
+    ∷ case (word 0 512) 0 8
+    ∷ case (word 0 2048) 0 8
+    ∷ case (word 0 32768) 0 0
+    ∷ case (word 1 256) 0 0
+    ∷ case (word 1 1) 0 8
+    ∷ case (word 1 2) 32767 0
+    ∷ case (word 1 514) 65535 0
+    ∷ case (word 0 8192) 0 8
+    ∷ case (λ ws. word 0 8192 (word 18 200 ws)) 0 0
+    ∷ case (λ ws. word 0 4096 (word 18 201 ws)) 0 8
+    ∷ case (word 0 16384) 0 0
+    ∷ case (word 2 4096) 0 8
+    ∷ case (λ ws. word 0 4 (word 2 4096 (word 26 40 ws))) 0 0
+    ∷ case (λ ws. word 0 4 (word 26 40 (word 40 4096 ws))) 0 8
+    ∷ case (λ ws. word 0 4 (word 26 1024 ws)) 0 8
+    ∷ []
+
+pub answer : Case → ℕ
+answer c = numberOf (firstOf (readingCases (readingOf (c .write worked) 1 Manual) (c .raw)))
+
+pub computed : map answer cases ≡ map (λ (c : Case). c .number) cases
+unfolding bcd badDigit mode2Of badDigits tuningOf settingsOf modeAfter remoteOf readingOf worked case word cases answer
+computed = refl

@@ -1,0 +1,2 @@
+-- The settings at their edges, computed.
+pub mod Examples

@@ -1,0 +1,47 @@
+-- Refusals 7, 8 and 9 of a sample, by what it read. The settings of 8 stand in four groups.
+use Prim.Native.Nat.{ℕ}
+use mathlib.Core.Bool.{Bool, not, _&&_, _||_}
+use mathlib.Core.List.{List, [], _∷_}
+use lib.Dec.{ltb, eqb}
+use Rattle.refusals.specs.declared.Refusal.the-variants.{Digit, Setting, Above}
+use Rattle.refusals.specs.Refusals.{Case, _⇒_}
+use Rattle.table.specs.declared.settings.Mode1.{Mode1}
+use Rattle.table.specs.declared.settings.Tuning.{Tuning}
+use Rattle.table.specs.declared.settings.OutputLimits.{OutputLimits}
+use Rattle.table.specs.declared.reading.Reading.{Reading}
+use Rattle.table.specs.Modes.{isCascade}
+pub mod Laws
+
+-- velocity with Bumpless II; mode 1 bit 9 or 11; a mode 2 bit without use; hysteresis outside 1 to 200 where bit 12 or 13 is set
+abbrev pub badModes : Mode1 → Bool → ℕ → Bool
+badModes bits unused hysteresis =
+    (bits .velocity && bits .bumpless)
+    || bits .limited
+    || bits .profile
+    || unused
+    || ((bits .level || bits .deviation) && (ltb hysteresis 1 || ltb 200 hysteresis))
+
+-- period below 0.05 s; reset 0
+abbrev pub badTimes : Tuning → Bool
+badTimes t = ltb (t .period) 5 || eqb (t .reset) 0
+
+-- output low above high, or high above full scale
+abbrev pub badLimits : OutputLimits → ℕ → Bool
+badLimits limits scale = ltb (limits .high) (limits .low) || ltb scale (limits .high)
+
+-- outside Cascade the setpoint above full scale; in Cascade the pointer above 1,023, or the word there above full scale
+abbrev pub badSetpoint : Bool → ℕ → ℕ → ℕ → ℕ → Bool
+badSetpoint cascade scale setpoint pointer remote = (not cascade && ltb scale setpoint) || (cascade && (ltb 1023 pointer || ltb scale remote))
+
+-- 7; 8 by its groups; 9
+abbrev pub readingCases : Reading → ℕ → List Case
+readingCases r raw =
+    let s = r .settings in
+    let scale = s .mode2 .input .scale in
+    (s .baddigit ⇒ Digit)
+    ∷ (badModes (s .mode1) (s .mode2 .unused) (s .alarms .hysteresis) ⇒ Setting)
+    ∷ (badTimes (s .tuning) ⇒ Setting)
+    ∷ (badLimits (s .limits) (s .mode2 .output .scale) ⇒ Setting)
+    ∷ (badSetpoint (isCascade (r .mode)) scale (s .stored .setpoint) (s .pointer) (r .remote) ⇒ Setting)
+    ∷ (ltb scale raw ⇒ Above)
+    ∷ []

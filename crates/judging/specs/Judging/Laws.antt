@@ -1,0 +1,48 @@
+-- What an accepted sample's reading is known to be, each group by its name.
+use Prim.Native.Nat.{ℕ, _≤_, _<_}
+use native.Mathlib.Omega.{arith}
+use mathlib.Core.Path.{_≡_}
+use mathlib.Core.Bool.{Bool, true, false, cond, _||_}
+use lib.Dec.{ltb, eqb}
+use borrow.Author.Tests.{ltb-false, eqb-false}
+use Rattle.refusals.specs.declared.Answer.the-variants.{Accepted}
+use Rattle.refusals.specs.Refusals.{firstOf}
+use Rattle.refusals.specs.Refusals.Laws.{accepted-at}
+use Rattle.table.specs.declared.settings.Tuning.{Tuning}
+use Rattle.table.specs.declared.settings.OutputLimits.{OutputLimits}
+use Rattle.table.specs.declared.reading.Reading.{Reading}
+use Rattle.table.specs.Words.Laws.{or-false}
+use Rattle.table.specs.Modes.{isCascade}
+use Rattle.judging.specs.Judging.{badModes, badTimes, badLimits, badSetpoint, readingCases}
+
+pub record Passed (r : Reading) (raw : ℕ) : Type 0 where
+  pub digit : r .settings .baddigit ≡ false
+  pub modes : badModes (r .settings .mode1) (r .settings .mode2 .unused) (r .settings .alarms .hysteresis) ≡ false
+  pub times : badTimes (r .settings .tuning) ≡ false
+  pub limits : badLimits (r .settings .limits) (r .settings .mode2 .output .scale) ≡ false
+  pub setpoint : badSetpoint (isCascade (r .mode)) (r .settings .mode2 .input .scale) (r .settings .stored .setpoint) (r .settings .pointer) (r .remote) ≡ false
+  pub above : ltb (r .settings .mode2 .input .scale) raw ≡ false
+
+pub passed : (r : Reading) (raw : ℕ) → firstOf (readingCases r raw) ≡ Accepted → Passed r raw
+passed r raw e =
+    let no = accepted-at (readingCases r raw) e in
+    record { digit = no 0; modes = no 1; times = no 2; limits = no 3; setpoint = no 4; above = no 5 }
+
+-- ---- and what a group that has passed says
+
+pub times-good : (t : Tuning) → badTimes t ≡ false → (5 ≤ t .period) × (0 < t .reset)
+times-good t e =
+    let p = or-false (ltb (t .period) 5) (eqb (t .reset) 0) e in
+    let some = eqb-false (t .reset) 0 (p .1) in
+    (ltb-false _ _ (p .0), omega arith)
+
+pub limits-good : (l : OutputLimits) (scale : ℕ) → badLimits l scale ≡ false → (l .low ≤ l .high) × (l .high ≤ scale)
+limits-good l scale e =
+    let p = or-false (ltb (l .high) (l .low)) (ltb scale (l .high)) e in
+    (ltb-false _ _ (p .0), ltb-false _ _ (p .1))
+
+-- the setpoint that is taken
+pub setpoint-good : (cascade : Bool) (scale setpoint pointer remote : ℕ) → badSetpoint cascade scale setpoint pointer remote ≡ false
+    → cond cascade remote setpoint ≤ scale
+setpoint-good true scale setpoint pointer remote e = ltb-false _ _ (or-false (ltb 1023 pointer) (ltb scale remote) e .1)
+setpoint-good false scale setpoint pointer remote e = ltb-false _ _ (or-false (ltb scale setpoint) false e .0)

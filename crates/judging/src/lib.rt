@@ -1,0 +1,80 @@
+// Whether a sample is accepted, by what it read of the words: refusals 7, 8 and 9.
+use refusals::Answer;
+use refusals::Refusal;
+use table::Mode1;
+use table::OutputLimits;
+use table::Reading;
+use table::Tuning;
+use table::WORDS;
+use table::is_cascade;
+ghost use mathlib.Core.Path.{_≡_};
+ghost use Rattle.refusals.specs.Refusals.{firstOf};
+ghost use Rattle.judging.specs.Judging.{badModes, badTimes, badLimits, badSetpoint, readingCases};
+
+const LEAST_PERIOD: u16 = 5; // 0.05 s
+
+const MOST_HYSTERESIS: u16 = 200;
+
+const LAST_ADDRESS: u16 = WORDS as u16 - 1;
+
+// A setting of the mode bits, velocity with Bumpless II, or the hysteresis of alarms that are on.
+fn bad_modes(bits: Mode1, unused: bool, hysteresis: u16) -> bool
+    ensures { λ r. ⌜ r ≡ badModes bits unused hysteresis ⌝ }
+{
+    (bits.velocity & bits.bumpless)
+        | bits.limited
+        | bits.profile
+        | unused
+        | ((bits.level | bits.deviation) & ((hysteresis < 1) | (MOST_HYSTERESIS < hysteresis)))
+}
+
+fn bad_times(t: Tuning) -> bool
+    ensures { λ r. ⌜ r ≡ badTimes t ⌝ }
+{
+    (t.period < LEAST_PERIOD) | (t.reset == 0)
+}
+
+fn bad_limits(limits: OutputLimits, scale: u16) -> bool
+    ensures { λ r. ⌜ r ≡ badLimits limits scale ⌝ }
+{
+    (limits.high < limits.low) | (scale < limits.high)
+}
+
+// The setpoint or, in Cascade, the pointer and the word that it names.
+fn bad_setpoint(cascade: bool, scale: u16, setpoint: u16, pointer: u16, remote: u16) -> bool
+    ensures { λ r. ⌜ r ≡ badSetpoint cascade scale setpoint pointer remote ⌝ }
+{
+    (!cascade & (scale < setpoint)) | (cascade & ((LAST_ADDRESS < pointer) | (scale < remote)))
+}
+
+// The first refusal whose condition holds, in the table's order.
+pub fn judge(reading: Reading, raw: u16) -> Answer
+    ensures { λ r. ⌜ r ≡ firstOf (readingCases reading raw) ⌝ }
+{
+    let s = reading.settings;
+    let mode = reading.mode;
+    let bits = s.mode1;
+    let tuning = s.tuning;
+    let limits = s.limits;
+    let scale = s.mode2.input.scale;
+    let cascade = is_cascade(mode);
+    if s.baddigit {
+        return Answer::Refused(Refusal::Digit);
+    }
+    if bad_modes(bits, s.mode2.unused, s.alarms.hysteresis) {
+        return Answer::Refused(Refusal::Setting);
+    }
+    if bad_times(tuning) {
+        return Answer::Refused(Refusal::Setting);
+    }
+    if bad_limits(limits, s.mode2.output.scale) {
+        return Answer::Refused(Refusal::Setting);
+    }
+    if bad_setpoint(cascade, scale, s.stored.setpoint, s.pointer, reading.remote) {
+        return Answer::Refused(Refusal::Setting);
+    }
+    if scale < raw {
+        return Answer::Refused(Refusal::Above);
+    }
+    Answer::Accepted
+}

@@ -1,3 +1,0 @@
--- What the calls leave, in plain values, and that they are the desk's.
-pub mod Leaving
-pub mod OnTheDesk

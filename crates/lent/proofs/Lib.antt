@@ -1,2 +1,0 @@
--- What the loops over the lent buffers keep.
-pub mod Loops

@@ -1,2 +1,0 @@
--- What the contracts of this crate, and of the C interface, cite.
-pub mod Layout

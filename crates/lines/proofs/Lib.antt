@@ -1,0 +1,2 @@
+-- How much room lines take.
+pub mod Widths

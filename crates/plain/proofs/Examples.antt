@@ -1,0 +1,130 @@
+-- The plain loop computed beside the engine over four lists of accepted samples of loop 1, so that demand 3 is seen not to be empty.
+use Prim.Native.Nat.{ℕ}
+use mathlib.Core.Path.{_≡_, refl}
+use mathlib.Core.Bool.{Bool, true, not, _&&_}
+use mathlib.Core.List.{List, [], _∷_, map}
+use lib.ListN.{getD, set, replicate}
+use lib.IntN.{pos}
+use Rattle.numbers.specs.Limits.{clampBy}
+use Rattle.numbers.specs.Rounding.{halfUp, halfAway}
+use Rattle.numbers.specs.Roots.{rootWithin, rootOf}
+use Rattle.numbers.specs.Fractions.{Fraction, over, whole, _+ᶠ_, negᶠ, ltᶠ, roundTo}
+use Rattle.table.specs.Words.{bcd, badDigit}
+use Rattle.table.specs.Settings.{mode2Of, badDigits, tuningOf, settingsOf}
+use Rattle.table.specs.Reading.{modeAfter, remoteOf, readingOf}
+use Rattle.control.specs.Errors.{squaredOver, errorOf}
+use Rattle.control.specs.Terms.{exactP, exactI, exactD, exactTerms, termsOf}
+use Rattle.control.specs.Forms.{outsideOf, positionOf, velocityOf}
+use Rattle.alarms.specs.Status.{apart, levelsOf, statusOf}
+use Rattle.carried.specs.declared.record.Carried.{Carried}
+use Rattle.carried.specs.Layout.{resetRecord}
+use Rattle.engine.specs.Sensing.{pvOf, setpointOf, entering, targetOf, errorIn, sensedOf}
+use Rattle.engine.specs.Driving.{heldOf, startOf, pastOf, positionInputs, velocityInputs, termsIn, movedPosition, movedVelocity, movedOf, drivenOf}
+use Rattle.engine.specs.Writing.{outputWord, biasWord, statusWord, writtenOf, nextOf, writtenTo}
+use Rattle.engine.specs.Steps.{stepOf}
+use Rattle.plain.specs.Exact.{exactSum, exactOutput, exactBias}
+use Rattle.plain.specs.Plain.{Plain, begun, countAfter, movedBy, plainAfter}
+
+-- what is written into the words before a sample, its raw PV, and what is expected after it: the engine's word, n and the exact output
+pub record Sample : Type 0 where
+  pub write : List ℕ → List ℕ
+  pub raw : ℕ
+  pub word : ℕ
+  pub n : ℕ
+  pub exact : Fraction
+
+pub record Row : Type 0 where
+  pub word : ℕ
+  pub n : ℕ
+  pub exact : Bool
+
+-- two fractions of one value
+same : Fraction → Fraction → Bool
+same x y = not (ltᶠ x y) && not (ltᶠ y x)
+
+-- the loop's words (and some behind them), its record, and its plain loop, from sample to sample
+rows : List ℕ → Carried → Plain → List Sample → List Row
+rows ws c q [] = []
+rows ws c q (x ∷ xs) =
+    let before = x .write ws in
+    let s = stepOf (readingOf before 1 (c .state .mode)) c (x .raw) in
+    let q′ = plainAfter q (readingOf before 1 (q .state .mode)) (x .raw) in
+    let after = writtenTo before 0 (s .written) in
+    record { word = getD after 5 0; n = q′ .n; exact = same (q′ .output) (x .exact) } ∷ rows after (s .carried) q′ xs
+
+pub expected : Sample → Row
+expected x = record { word = x .word; n = x .n; exact = true }
+
+pub from-reset : List Sample → List Row
+from-reset xs = rows (replicate 64 0) resetRecord (begun resetRecord) xs
+
+-- ---- the worked loop: lines 7 and 9, then PV 0 and PV 1,500
+
+counts : ℕ → Fraction
+counts n = whole (pos n)
+
+kept : List ℕ → List ℕ
+kept ws = ws
+
+-- an Automatic request, output 2,000, period 1.00, gain 2.00, reset 10.00, high limit 4,095
+worked : List ℕ → List ℕ
+worked ws = set (set (set (set (set (set ws 0 2) 5 2000) 7 0x0100) 8 0x0200) 9 0x1000) 25 4095
+
+pub loopA : List Sample
+loopA =
+    record { write = worked; raw = 1000; word = 2000; n = 1; exact = counts 2000 }
+    ∷ record { write = λ ws. set ws 2 1500; raw = 1000; word = 3100; n = 2; exact = counts 3100 }
+    ∷ record { write = kept; raw = 0; word = 4095; n = 3; exact = counts 4095 }
+    ∷ record { write = kept; raw = 1500; word = 1095; n = 4; exact = counts 1095 }
+    ∷ []
+
+-- ---- velocity (bit 5), Manual (request 0) and freeze (bit 10) set n to 0; only an entry starts it again. The PV stands on the setpoint
+
+mode : ℕ → ℕ → Sample
+mode bits n = record { write = λ ws. set ws 0 bits; raw = 1000; word = 2000; n = n; exact = counts 2000 }
+
+pub counting : List Sample
+counting =
+    record { write = worked; raw = 1000; word = 2000; n = 1; exact = counts 2000 }
+    ∷ mode 0 2
+    ∷ mode 32 0
+    ∷ mode 32 0
+    ∷ mode 0 1
+    ∷ mode 0 2
+    ∷ mode 1 0
+    ∷ mode 0 0
+    ∷ mode 2 1
+    ∷ mode 1024 0
+    ∷ mode 0 0
+    ∷ []
+
+-- ---- an entry after Manual with Bumpless II, word 5 above the limit, a rate and another PV: from 4,095, no rate term: 4,095 − 220 − 22
+
+settled : List ℕ → List ℕ
+settled ws = set (set (set (worked ws) 0 0) 2 900) 10 0x0100
+
+pub entered : List Sample
+entered =
+    record { write = settled; raw = 1000; word = 2000; n = 0; exact = counts 0 }
+    ∷ record { write = λ ws. set (set ws 5 5000) 0 10; raw = 1010; word = 3853; n = 1; exact = counts 3853 }
+    ∷ record { write = kept; raw = 1010; word = 3831; n = 2; exact = counts 3831 }
+    ∷ []
+
+-- ---- Cascade, a rate term at n = 2, and outputs that are not whole. Gain 0.33, reset 7.00, rate 0.50; the setpoint is word 40
+-- 1: e 500, P 165, I 165/7: 1,000 + 165 + 165/7 = 8,320/7
+-- 2: e 490, P 161.7, D 1.65, I 23.1, B 7,165/7: 168,941/140
+-- 3: e 390, P 128.7, D 0, I 1,287/70, B 146,534/140: 167,126/140
+
+followed : List ℕ → List ℕ
+followed ws = set (set (set (set (set (set (set (worked ws) 0 4) 5 1000) 8 0x0033) 9 0x0700) 10 0x0050) 26 40) 40 1500
+
+pub cascaded : List Sample
+cascaded =
+    record { write = followed; raw = 1000; word = 1189; n = 1; exact = over (pos 8320) 7 }
+    ∷ record { write = kept; raw = 1010; word = 1207; n = 2; exact = over (pos 168941) 140 }
+    ∷ record { write = λ ws. set ws 40 1400; raw = 1010; word = 1194; n = 3; exact = over (pos 167126) 140 }
+    ∷ []
+
+pub computed : map from-reset (loopA ∷ counting ∷ entered ∷ cascaded ∷ []) ≡ map (map expected) (loopA ∷ counting ∷ entered ∷ cascaded ∷ [])
+unfolding clampBy halfUp halfAway rootWithin rootOf over _+ᶠ_ negᶠ ltᶠ roundTo bcd badDigit modeAfter mode2Of badDigits tuningOf settingsOf remoteOf readingOf squaredOver errorOf exactP exactI exactD exactTerms termsOf outsideOf positionOf velocityOf apart levelsOf statusOf resetRecord pvOf setpointOf entering heldOf startOf targetOf errorIn sensedOf pastOf positionInputs velocityInputs termsIn movedPosition movedVelocity movedOf drivenOf outputWord biasWord statusWord writtenOf nextOf stepOf writtenTo exactSum exactOutput exactBias begun countAfter movedBy plainAfter same rows expected from-reset counts kept worked loopA mode counting settled entered followed cascaded
+computed = refl

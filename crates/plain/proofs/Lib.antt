@@ -1,0 +1,2 @@
+-- The plain loop computed beside the engine.
+pub mod Examples

@@ -1,0 +1,22 @@
+-- The exact position form of demand 3, in fractions of a count: step 8 on the terms of step 7 before rounding.
+use Prim.Native.Nat.{ℕ}
+use lib.IntN.{ℤ, pos}
+use Rattle.numbers.specs.Fractions.{Fraction, over, whole, _+ᶠ_, _-ᶠ_, clampᶠ}
+use Rattle.control.specs.Terms.{Exact}
+pub mod Laws
+
+-- a number of units in counts: 262,144 of them are one
+abbrev pub inCounts : ℤ → Fraction
+inCounts z = over z 262144
+
+-- m = P − D + B + I
+unfoldable pub exactSum : Fraction → Exact → Fraction
+exactSum B t = (t .p -ᶠ t .d) +ᶠ (B +ᶠ t .i)
+
+-- the exact output is m brought to the nearer limit
+unfoldable pub exactOutput : ℕ → ℕ → Fraction → Exact → Fraction
+exactOutput low high B t = clampᶠ (exactSum B t) (whole (pos low)) (whole (pos high))
+
+-- and B becomes that output − (P − D)
+unfoldable pub exactBias : Fraction → Exact → Fraction
+exactBias output t = output -ᶠ (t .p -ᶠ t .d)

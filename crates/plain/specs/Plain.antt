@@ -1,0 +1,62 @@
+-- The plain loop of demand 3: the exact output, in fractions, beside the engine. It is fed the reading and the raw PV of each accepted sample of
+-- its loop; it never looks at the engine's carried numbers.
+use Prim.Native.Nat.{ℕ, zero, suc, _+_}
+use mathlib.Core.Bool.{Bool, true, false, cond, _||_}
+use lib.IntN.{ℤ, pos, _-ℤ_}
+use Rattle.numbers.specs.Fractions.{Fraction, over, whole, _+ᶠ_}
+use Rattle.table.specs.declared.reading.Reading.{Reading}
+use Rattle.table.specs.Modes.{isManual}
+use Rattle.control.specs.declared.terms.Inputs.{Inputs}
+use Rattle.control.specs.Terms.{exactTerms}
+use Rattle.carried.specs.declared.record.State.{State}
+use Rattle.carried.specs.declared.record.Carried.{Carried}
+use Rattle.engine.specs.Sensing.{sensedOf}
+use Rattle.engine.specs.Driving.{heldOf}
+use Rattle.plain.specs.Exact.{inCounts, exactOutput, exactBias}
+pub mod Laws
+
+-- the loop's state (mode and algorithm), the last PV, the exact bias B, the count n, and the last exact output
+pub record Plain : Type 0 where
+  pub state : State
+  pub last : ℕ
+  pub B : Fraction
+  pub n : ℕ
+  pub output : Fraction
+
+-- at the start its state is that of the loop's first carried record, and n is 0
+unfoldable pub begun : Carried → Plain
+begun c = record { state = c .state; last = 0; B = whole (pos 0); n = 0; output = whole (pos 0) }
+
+-- Manual, freeze and velocity form set n to 0 (`idle`); else an entry sets it to 1, and any other sample raises an n above 0 by 1
+unfoldable pub countAfter : Bool → Bool → ℕ → ℕ
+countAfter true entry n = 0
+countAfter false true n = 1
+countAfter false false zero = 0
+countAfter false false (suc n) = suc (suc n)
+
+-- what the terms act on
+abbrev pub inputsOf : ℕ → ℕ → ℤ → Inputs
+inputsOf last p e = record { p = e; i = e; d = pos p -ℤ pos last }
+
+-- where n is now above 0: the exact terms, the exact output, and B after it. `start` and `last` are B and the last PV to start from. The state
+-- and p are kept after every accepted sample
+unfoldable pub movedBy : ℕ → Plain → Reading → State → Fraction → ℕ → ℕ → ℤ → Plain
+movedBy zero q r state start last p e = record { state = state; last = p; B = q .B; n = 0; output = q .output }
+movedBy (suc n) q r state start last p e =
+    let s = r .settings in
+    let terms = exactTerms (s .tuning) (s .mode2 .minutes) (s .mode1 .reverse) (inputsOf last p e) in
+    let output = exactOutput (s .limits .low) (s .limits .high) start terms in
+    record { state = state; last = p; B = exactBias output terms; n = suc n; output = output }
+
+-- an accepted sample of its loop: p, s and whole e by steps 1 to 5 from its own state; an entry sets B to word 5 brought to the nearer limit, and
+-- the last PV to p
+unfoldable pub plainAfter : Plain → Reading → ℕ → Plain
+plainAfter q r raw =
+    let s = r .settings in
+    let x = sensedOf r (q .state) raw in
+    let n = countAfter (isManual (r .mode) || s .mode1 .freeze || s .mode1 .velocity) (x .entry) (q .n) in
+    movedBy n q r (x .state) (cond (x .entry) (whole (pos (heldOf s))) (q .B)) (cond (x .entry) (x .pv) (q .last)) (x .pv) (x .error)
+
+-- half a count and (n + 1)/262,144 of a count
+unfoldable pub tolerance : ℕ → Fraction
+tolerance n = over (pos 1) 2 +ᶠ inCounts (pos (n + 1))

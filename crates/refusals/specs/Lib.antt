@@ -1,0 +1,2 @@
+-- The refusals, their numbers, and which of several is reported.
+pub mod Refusals

@@ -1,0 +1,41 @@
+-- The refusals with their numbers (document 01's table), the number of an answer, and the first of several conditions that holds.
+use Prim.Native.Nat.{ℕ}
+use mathlib.Core.Bool.{Bool, cond}
+use mathlib.Core.List.{List, [], _∷_}
+use Rattle.refusals.specs.declared.Refusal.{Refusal}
+use Rattle.refusals.specs.declared.Refusal.the-variants.{Cut, Kind, Length, Loop, Memory, Record, Store, Digit, Setting, Above}
+use Rattle.refusals.specs.declared.Answer.{Answer}
+use Rattle.refusals.specs.declared.Answer.the-variants.{Accepted, Refused}
+pub mod Laws
+
+-- the number of each refusal
+abbrev pub numberOfRefusal : Refusal → ℕ
+numberOfRefusal Cut = 1
+numberOfRefusal Kind = 2
+numberOfRefusal Length = 3
+numberOfRefusal Loop = 4
+numberOfRefusal Memory = 5
+numberOfRefusal Record = 5
+numberOfRefusal Store = 6
+numberOfRefusal Digit = 7
+numberOfRefusal Setting = 8
+numberOfRefusal Above = 9
+
+-- the number of an answer: 0 where the call is accepted
+abbrev pub numberOf : Answer → ℕ
+numberOf Accepted = 0
+numberOf (Refused why) = numberOfRefusal why
+
+-- a condition, and the refusal where it holds
+pub record Case : Type 0 where
+  pub holds : Bool
+  pub why : Refusal
+
+infix 20 _⇒_
+abbrev pub _⇒_ : Bool → Refusal → Case
+b ⇒ why = record { holds = b; why = why }
+
+-- the first that holds is reported
+abbrev pub firstOf : List Case → Answer
+firstOf [] = Accepted
+firstOf (x ∷ l) = cond (x .holds) (Refused (x .why)) (firstOf l)

@@ -1,0 +1,61 @@
+-- The laws of the refusals: a number above 0 is a refusal's, and where a list of cases accepts, no condition of it holds.
+use Prim.Native.Nat.{ℕ, zero, suc, _≤_, _<_}
+use native.Mathlib.Omega.{arith}
+use mathlib.Core.Path.{_≡_, refl}
+use mathlib.Core.Bool.{Bool, true, false, cond}
+use mathlib.Core.List.{List, [], _∷_, _++_}
+use Rattle.refusals.specs.declared.Refusal.{Refusal}
+use Rattle.refusals.specs.declared.Refusal.the-variants.{Cut, Kind, Length, Loop, Memory, Record, Store, Digit, Setting, Above}
+use Rattle.refusals.specs.declared.Answer.{Answer}
+use Rattle.refusals.specs.declared.Answer.the-variants.{Accepted, Refused}
+use Rattle.refusals.specs.Refusals.{numberOfRefusal, numberOf, Case, firstOf}
+
+-- ---- numbers
+
+-- every refusal has a number of the table: 1 to 9
+pub in-table : (why : Refusal) → (0 < numberOfRefusal why) × (numberOfRefusal why ≤ 9)
+in-table Cut = omega arith
+in-table Kind = omega arith
+in-table Length = omega arith
+in-table Loop = omega arith
+in-table Memory = omega arith
+in-table Record = omega arith
+in-table Store = omega arith
+in-table Digit = omega arith
+in-table Setting = omega arith
+in-table Above = omega arith
+
+-- an answer of 0 is an acceptance
+pub accepted-only : (a : Answer) → numberOf a ≡ 0 → a ≡ Accepted
+accepted-only Accepted e = refl
+accepted-only (Refused why) e = absurd (omega (arith, in-table why))
+
+-- a refusal is no acceptance
+pub never : {why : Refusal} → Refused why ≡ Accepted → ⊥
+never e = let z : _≡_ {A = ℕ} 0 1 = cc in omega arith
+
+-- ---- lists of cases
+
+passed : (b : Bool) (why : Refusal) (rest : Answer) → cond b (Refused why) rest ≡ Accepted → (b ≡ false) × (rest ≡ Accepted)
+passed true why rest e = absurd (never e)
+passed false why rest e = (refl, e)
+
+-- the condition of the i-th case. Only the law beside a list names a place of it
+abbrev pub holdsAt : List Case → ℕ → Bool
+holdsAt [] i = false
+holdsAt (x ∷ l) zero = x .holds
+holdsAt (x ∷ l) (suc i) = holdsAt l i
+
+-- where none is refused, no condition holds
+pub accepted-at : (l : List Case) → firstOf l ≡ Accepted → (i : ℕ) → holdsAt l i ≡ false
+accepted-at [] e i = refl
+accepted-at (x ∷ l) e zero = passed (x .holds) (x .why) (firstOf l) e .0
+accepted-at (x ∷ l) e (suc i) = accepted-at l (passed (x .holds) (x .why) (firstOf l) e .1) i
+
+-- and so of a list that goes on
+pub accepted-rest : (l m : List Case) → firstOf (l ++ m) ≡ Accepted → (firstOf l ≡ Accepted) × (firstOf m ≡ Accepted)
+accepted-rest [] m e = (refl, e)
+accepted-rest (x ∷ l) m e =
+    let p = passed (x .holds) (x .why) (firstOf (l ++ m)) e in
+    let q = accepted-rest l m (p .1) in
+    (rw (p .0) (q .0), q .1)

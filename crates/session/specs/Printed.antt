@@ -1,0 +1,38 @@
+-- What the program prints of a file: a line for each record, and the last line.
+use Prim.Native.Nat.{ℕ, _+_, _*_}
+use mathlib.Core.Bool.{cond}
+use mathlib.Core.List.{List, [], _∷_, _++_}
+use lib.ListN.{length}
+use lib.Dec.{ltb}
+use Rattle.text.specs.Text.{bytes}
+use Rattle.reader.specs.declared.Record.{Record}
+use Rattle.reader.specs.File.{recordsOf}
+use Rattle.desk.specs.Desk.{resetDesk}
+use Rattle.lines.specs.Lines.{lineText, lastText}
+use Rattle.session.specs.Session.{numberFor, leftFor, shownFor, State, begun, after}
+
+-- the lines of some records from a state on, the last line with them
+unfoldable pub linesOf : State → List Record → List ℕ
+linesOf t [] = lastText (t .count) (t .refused)
+linesOf t (x ∷ xs) =
+    lineText (t .count + 1) x (numberFor (t .desk) x) (shownFor (leftFor (t .desk) x .words) x) ++ linesOf (after t x) xs
+
+-- a longer file prints this alone
+abbrev pub tooLong : List ℕ
+tooLong = bytes "too long\n"
+
+-- what the program prints of its input, from reset
+unfoldable pub printedOf : List ℕ → List ℕ
+printedOf file = cond (ltb 65536 (length file)) tooLong (linesOf (begun resetDesk) (recordsOf file))
+
+-- a text that is written only where there is room for some number of bytes
+abbrev pub withRoom : ℕ → ℕ → List ℕ → List ℕ
+withRoom room need text = cond (ltb room need) [] text
+
+-- the room for what is printed of a file: no record prints more than ten bytes for each of its own, and the last line takes at most 60
+abbrev pub roomFor : List ℕ → ℕ
+roomFor file = cond (ltb 65536 (length file)) 9 (10 * length file + 100)
+
+-- what is printed into a buffer of some length
+unfoldable pub printedWithin : ℕ → List ℕ → List ℕ
+printedWithin room file = withRoom room (roomFor file) (printedOf file)

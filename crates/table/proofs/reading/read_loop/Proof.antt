@@ -1,0 +1,59 @@
+-- `table::read_loop` meets its contract, by those of the functions that it calls; the part lent to the first is 32 words long.
+use borrow.Author.Needs.{needs}
+use native.Mathlib.Nat.{add-sub-cancel-left}
+use Rattle.table.specs.Reading.{readingOf}
+use Rattle.table.proofs.reading.read_loop.Statement.{statement}
+use Rattle.table.proofs.reading.read_loop.Tie as tie
+
+base-of-requires : tie.Need-base-of-requires
+base-of-requires c κs = search needs
+
+add-read-settings : tie.Need-add-read-settings
+add-read-settings c = search needs
+
+mul-read-settings : tie.Need-mul-read-settings
+mul-read-settings c = search needs
+
+sub-read-settings : tie.Need-sub-read-settings
+sub-read-settings c = search needs
+
+part-read-settings-start : tie.Need-part-read-settings-start
+part-read-settings-start c = search needs
+
+part-read-settings-end : tie.Need-part-read-settings-end
+part-read-settings-end c = search needs
+
+read-settings-requires : tie.Need-read-settings-requires
+read-settings-requires c κs = search needs
+
+mode-after-requires : tie.Need-mode-after-requires
+mode-after-requires c κs = search needs
+
+read-remote-requires : tie.Need-read-remote-requires
+read-remote-requires c κs = search needs
+
+returns : tie.Need-returns
+unfolding readingOf
+returns c =
+    simp (
+      c .read-remote .ensures,
+      c .before .mode-after .ensures,
+      c .before .before .before .read-settings .ensures,
+      c .before .before .before .before .before .base-of .ensures,
+      add-sub-cancel-left,
+    )
+
+pub read-loop-spec : {M : Type 1} → statement M
+read-loop-spec =
+    tie.close
+    (tie.spec
+    base-of-requires
+    add-read-settings
+    mul-read-settings
+    sub-read-settings
+    part-read-settings-start
+    part-read-settings-end
+    read-settings-requires
+    mode-after-requires
+    read-remote-requires
+    returns)

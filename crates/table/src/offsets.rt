@@ -1,0 +1,52 @@
+// The lent words: how many there are, and the offset of each word of a loop, as in the header.
+pub const WORDS: usize = 1024;
+
+pub const LOOPS: u8 = 16;
+
+pub const LOOP_WORDS: usize = 32;
+
+pub const MODE_1: usize = 0;
+
+pub const MODE_2: usize = 1;
+
+pub const SETPOINT: usize = 2;
+
+pub const PV: usize = 3;
+
+pub const BIAS: usize = 4;
+
+pub const OUTPUT: usize = 5;
+
+pub const STATUS: usize = 6;
+
+pub const PERIOD: usize = 7;
+
+pub const GAIN: usize = 8;
+
+pub const RESET: usize = 9;
+
+pub const RATE: usize = 10;
+
+pub const LOW_LOW: usize = 11;
+
+pub const LOW: usize = 12;
+
+pub const HIGH: usize = 13;
+
+pub const HIGH_HIGH: usize = 14;
+
+pub const YELLOW: usize = 15;
+
+pub const RED: usize = 16;
+
+pub const CHANGE: usize = 17;
+
+pub const HYSTERESIS: usize = 18;
+
+pub const DEADBAND: usize = 19;
+
+pub const OUTPUT_LOW: usize = 24;
+
+pub const OUTPUT_HIGH: usize = 25;
+
+pub const POINTER: usize = 26;

@@ -1,0 +1,78 @@
+// All that a sample reads of the lent words.
+use crate::mode::Mode;
+use crate::mode::is_cascade;
+use crate::offsets::LOOP_WORDS;
+use crate::settings::Mode1;
+use crate::settings::Settings;
+use crate::settings::read_settings;
+use crate::words::word_at;
+ghost use mathlib.Core.Path.{_≡_};
+ghost use Prim.Native.Nat.{_+_, _≤_};
+ghost use lib.ListN.{length};
+ghost use Rattle.table.specs.Words.{baseOf};
+ghost use Rattle.table.specs.Reading.{modeAfter, remoteOf, readingOf};
+
+// The loop's number and settings, the mode after the requests and, in Cascade, the word that the
+// setpoint pointer names (else 0).
+pub struct Reading {
+    pub number: u8,
+    pub settings: Settings,
+    pub mode: Mode,
+    pub remote: u16,
+}
+
+// The address of the first word of loop k.
+pub fn base_of(k: u8) -> usize
+    ensures { λ r. ⌜ r ≡ baseOf k ⌝ }
+{
+    if k < 1 {
+        0
+    } else {
+        LOOP_WORDS * (k as usize - 1)
+    }
+}
+
+// Step 2: the lowest request bit that is set gives the mode, and none keeps it.
+fn mode_after(bits: Mode1, former: Mode) -> Mode
+    ensures { λ r. ⌜ r ≡ modeAfter bits former ⌝ }
+{
+    if bits.manual {
+        Mode::Manual
+    } else if bits.automatic {
+        Mode::Automatic
+    } else if bits.cascade {
+        Mode::Cascade
+    } else {
+        former
+    }
+}
+
+// The word that the setpoint pointer names, in Cascade; else 0.
+fn read_remote(words: &[u16], mode: Mode, pointer: u16) -> u16
+    ensures { λ r. ⌜ r ≡ remoteOf (now (words .entry)) mode pointer ⌝ }
+{
+    let cascade = is_cascade(mode);
+    if cascade {
+        word_at(words, pointer as usize)
+    } else {
+        0
+    }
+}
+
+// What a sample of loop `number` reads, the loop's mode so far being `former`.
+pub fn read_loop(words: &[u16], number: u8, former: Mode) -> Reading
+    requires { ⌜ baseOf number + 32 ≤ length (now words) ⌝ }
+    ensures { λ r. ⌜ r ≡ readingOf (now (words .entry)) number former ⌝ }
+{
+    let base = base_of(number);
+    let settings = read_settings(&words[base..base + LOOP_WORDS]);
+    let bits = settings.mode1;
+    let mode = mode_after(bits, former);
+    let remote = read_remote(words, mode, settings.pointer);
+    Reading {
+        number,
+        settings,
+        mode,
+        remote,
+    }
+}
