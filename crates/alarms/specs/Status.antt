@@ -70,7 +70,7 @@ statusOf mode bits l output stored seen =
 -- ---- the word of the bits
 
 -- r is the number n, which is at most b
-pub record Small (r n b : ℕ) : Type 0 where
+pub record Valued (r n b : ℕ) : Type 0 where
   pub value : r ≡ n
   pub small : r ≤ b
 

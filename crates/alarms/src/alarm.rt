@@ -4,11 +4,11 @@ use table::Mode1;
 use table::OutputLimits;
 ghost use mathlib.Core.Path.{_≡_};
 ghost use mathlib.Core.Bool.{cond};
-ghost use Rattle.alarms.specs.Status.{Small, highAlarm, lowAlarm, apart, unordered, atLimit};
+ghost use Rattle.alarms.specs.Status.{Valued, highAlarm, lowAlarm, apart, unordered, atLimit};
 
 // What the hold adds: the hysteresis of an alarm that was on.
 fn margin(was: bool, hysteresis: u16) -> u32
-    ensures { λ r. ⌜ Small r (cond was hysteresis 0) 65535 ⌝ }
+    ensures { λ r. ⌜ Valued r (cond was hysteresis 0) 65535 ⌝ }
 {
     if was { hysteresis as u32 } else { 0 }
 }

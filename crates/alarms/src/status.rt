@@ -11,7 +11,7 @@ use table::OutputLimits;
 use table::is_manual;
 ghost use mathlib.Core.Path.{_≡_};
 ghost use mathlib.Core.Bool.{cond};
-ghost use Rattle.alarms.specs.Status.{Small, apart, wordOf, bitsOf, statusOf};
+ghost use Rattle.alarms.specs.Status.{Valued, apart, wordOf, bitsOf, statusOf};
 ghost use Rattle.alarms.specs.Sums.{flagOf, modeBit, levelBits, deviationBits};
 
 // What the status word tells of one sample.
@@ -46,7 +46,7 @@ pub struct Status {
 
 // Bits 0 to 2.
 fn mode_bit(mode: Mode) -> u16
-    ensures { λ r. ⌜ Small r (modeBit mode) 4 ⌝ }
+    ensures { λ r. ⌜ Valued r (modeBit mode) 4 ⌝ }
 {
     match mode {
         Mode::Manual => 1,
@@ -57,14 +57,14 @@ fn mode_bit(mode: Mode) -> u16
 
 // A bit's value in the word.
 fn flag(on: bool, bit: u16) -> u16
-    ensures { λ r. ⌜ Small r (flagOf on bit) bit ⌝ }
+    ensures { λ r. ⌜ Valued r (flagOf on bit) bit ⌝ }
 {
     if on { bit } else { 0 }
 }
 
 // Bits 3 to 6, where the PV is monitored. `stored` is the status word before the sample.
 fn level_bits(on: bool, limits: AlarmLimits, stored: u16, pv: u16) -> u16
-    ensures { λ r. ⌜ Small r (cond on (levelBits limits stored pv) 0) 120 ⌝ }
+    ensures { λ r. ⌜ Valued r (cond on (levelBits limits stored pv) 0) 120 ⌝ }
 {
     if on {
         let hysteresis = limits.hysteresis;
@@ -80,7 +80,7 @@ fn level_bits(on: bool, limits: AlarmLimits, stored: u16, pv: u16) -> u16
 
 // Bits 7 and 8, where the deviation is monitored.
 fn deviation_bits(on: bool, limits: AlarmLimits, stored: u16, setpoint: u16, pv: u16) -> u16
-    ensures { λ r. ⌜ Small r (cond on (deviationBits limits stored (apart setpoint pv)) 0) 384 ⌝ }
+    ensures { λ r. ⌜ Valued r (cond on (deviationBits limits stored (apart setpoint pv)) 0) 384 ⌝ }
 {
     if on {
         let hysteresis = limits.hysteresis;

@@ -1,10 +1,9 @@
 -- Demand 3, proved: a turn keeps the loop's record tied to its plain loop, whatever it lends; so every turn of every list is good.
 use Prim.Native.Nat.{ℕ, _+_, _≤_, _<_}
 use native.Mathlib.Omega.{arith}
-use mathlib.Core.Path.{_≡_, refl, sym, ap, _∙_, subst}
+use mathlib.Core.Path.{_≡_, refl, sym, ap, _∙_}
 use mathlib.Core.Bool.{Bool, true, false}
 use mathlib.Core.List.{List, [], _∷_, _++_}
-use lib.Dec.{T}
 use lib.IntN.{ℤ}
 use lib.ListN.{length, take, drop, length-drop, take-append-drop}
 use lib.Seq.{take-append-le, drop-append-le}
@@ -24,7 +23,9 @@ use Rattle.desk.specs.Lists.Laws.{refused-call, unfit, numbers-kept, numbers-be
 use Rattle.desk.proofs.Accuracy as accuracy
 use Rattle.session.specs.Session.{begun as started, runOf, callsOf, leftOf}
 use Rattle.session.specs.Session.Laws.{run-desk}
-use Rattle.claims.specs.Turns.{Made, one, file, Turn, found, madeLeft, behind, fedMade}
+use Rattle.kexbardi_files.specs.Files.{Counted}
+use Rattle.claims.specs.Turns.{Made, one, file, Turn, found, numberTo, madeLeft, behind, fedMade}
+use Rattle.claims.proofs.Demand1.{demand-1}
 use Rattle.claims.specs.Demand3.{Direct, Good, All, Demand3}
 
 -- a record that stands whole in the first of two lists is found there
@@ -63,6 +64,10 @@ module _ (k : ℕ) (above : 1 ≤ k) (below : k ≤ 16) where
   -- ---- memory of the wrong lengths: every call is refused, and leaves it
 
   module _ (d : Desk) (q : Plain) (wrong : fittingOf d ≡ false) where
+    stopped : (bytes : List ℕ) → numberTo d (file bytes) ≡ 5
+    unfolding numberTo
+    stopped bytes = ap (λ (c : Counted). c .number) (demand-1 .memory bytes d 0 0 wrong .0)
+
     idle : (m : Made) → Good k q d m × (madeLeft d m ≡ d) × (fedMade k q d m ≡ q)
     unfolding madeLeft fedMade leftOf fed
     idle (one call) =
@@ -73,7 +78,7 @@ module _ (k : ℕ) (above : 1 ≤ k) (below : k ≤ 16) where
         none reset e = tt
         none (store address value) e = tt
         none (sample j raw) e = λ same zero. absurd (omega (arith, rw e at zero))
-    idle (file bytes) = (λ fit. absurd (subst T (sym fit ∙ wrong) tt), rw wrong, rw wrong)
+    idle (file bytes) = (λ zero. absurd (omega (arith, stopped bytes)), rw wrong, rw wrong)
 
   -- ---- a turn
 

@@ -4,7 +4,6 @@
 -- and at every reset, and runs on behind a file.
 use Prim.Native.Nat.{ℕ, _≤_}
 use mathlib.Core.Path.{_≡_}
-use mathlib.Core.Bool.{true}
 use mathlib.Core.List.{List, [], _∷_, _++_}
 use lib.IntN.{pos}
 use lib.ListN.{getD}
@@ -15,10 +14,10 @@ use Rattle.reader.specs.File.{recordsOf}
 use Rattle.table.specs.Words.{baseOf}
 use Rattle.carried.specs.Layout.{recordAt}
 use Rattle.plain.specs.Plain.{Plain, begun, tolerance}
-use Rattle.desk.specs.Desk.{Desk, fittingOf}
+use Rattle.desk.specs.Desk.{Desk}
 use Rattle.desk.specs.Lists.{Call, reset, store, sample, answerTo, deskAfter, deskBehind, fed, plainBehind, Accurate, Holds}
 use Rattle.session.specs.Session.{callsOf, leftOf}
-use Rattle.claims.specs.Turns.{Made, one, file, Turn, found, behind, fedMade}
+use Rattle.claims.specs.Turns.{Made, one, file, Turn, found, numberTo, behind, fedMade}
 
 -- of one direct call, q being the plain loop after it: a sample of loop k that is answered 0 is accurate
 abbrev pub Direct : ℕ → Desk → Plain → Call → Type 0
@@ -29,10 +28,10 @@ Direct k d q (sample j raw) =
     → let base = baseOf k in
     Accurate (getD (d .words) (base + 24) 0) (getD (d .words) (base + 25) 0) (getD (deskAfter d (sample j raw) .words) (base + 5) 0) q
 
--- of one call: a file is its records' calls in a row, each of them accurate, and it leaves what they leave
+-- of one call: a file that is answered 0 is its records' calls in a row, each of them accurate, and it leaves what they leave
 abbrev pub Good : ℕ → Plain → Desk → Made → Type 0
 Good k q d (one call) = Direct k d (fed k q d call) call
-Good k q d (file bytes) = fittingOf d ≡ true → let calls = callsOf (recordsOf bytes) in Holds k q d calls × (leftOf bytes d ≡ deskBehind d calls)
+Good k q d (file bytes) = numberTo d (file bytes) ≡ 0 → let calls = callsOf (recordsOf bytes) in Holds k q d calls × (leftOf bytes d ≡ deskBehind d calls)
 
 -- of every turn of a list
 unfoldable pub All : ℕ → Plain → Desk → List Turn → Type 0

@@ -125,10 +125,12 @@ pub(crate) fn words_after(
     );
     let status = status_after(reading, carried, sensed, output);
     let word = table::clear_requests(s.stored.word);
+    let setpoint = sensed.setpoint;
+    let pv = sensed.pv;
     Written {
         word,
-        setpoint: sensed.setpoint,
-        pv: sensed.pv,
+        setpoint,
+        pv,
         bias,
         output,
         status,

@@ -146,9 +146,6 @@ scale-neg k a =
       ap (λ (n : ℕ). k * n) (minus-neg a),
     )
 
-pub scale-sub : (k : ℕ) (a b : ℤ) → pos k *ℤ (a -ℤ b) ≡ (pos k *ℤ a) -ℤ (pos k *ℤ b)
-scale-sub k a b = scale-add k a (negℤ b) ∙ ap (λ (z : ℤ). (pos k *ℤ a) +ℤ z) (scale-neg k b)
-
 pub scale-scale : (k m : ℕ) (a : ℤ) → pos k *ℤ (pos m *ℤ a) ≡ pos (k * m) *ℤ a
 scale-scale k m a =
     omega (
@@ -159,6 +156,3 @@ scale-scale k m a =
       ap (λ (n : ℕ). k * n) (plus-scale m a),
       ap (λ (n : ℕ). k * n) (minus-scale m a),
     )
-
-pub scale-le : (k : ℕ) {a b : ℤ} → a ≤ℤ b → (pos k *ℤ a) ≤ℤ (pos k *ℤ b)
-scale-le k {a} {b} h = omega (arith, linear, scale k a, scale k b, mul-le-mul-left k (le-out h))

@@ -34,12 +34,6 @@ term-high k e {d} p m h =
 
 -- ---- reverse action
 
--- a negated term is the rounded term negated
-pub round-directed : (u : ℕ) (reverse : Bool) (x : Fraction)
-    → roundTo u (directedᶠ reverse x) ≡ cond reverse (negℤ (roundTo u x)) (roundTo u x)
-round-directed u true x = round-neg u x
-round-directed u false x = refl
-
 -- so are all three
 pub terms-directed : (t : Tuning) (minutes reverse : Bool) (x : Inputs)
     → cond reverse (negated (termsOf t minutes false x)) (termsOf t minutes false x) ≡ termsOf t minutes reverse x

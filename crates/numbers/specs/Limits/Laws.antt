@@ -114,12 +114,6 @@ clamp-low l x = clamped orderℤ l x .low
 pub clamp-high : {lo hi : ℤ} → lo ≤ℤ hi → (x : ℤ) → clampℤ x lo hi ≤ℤ hi
 clamp-high l x = clamped orderℤ l x .high
 
-along-order : Along _≤ℤ_ _≤ℤ_
-along-order = record { of = λ h. h; between = λ h r k. omega (arith, linear) }
-
-pub clamp-mono : {lo hi : ℤ} → lo ≤ℤ hi → {x y : ℤ} → x ≤ℤ y → clampℤ x lo hi ≤ℤ clampℤ y lo hi
-clamp-mono l {x} {y} h = clamped-along orderℤ along-order (clamped orderℤ l x) (clamped orderℤ l y) h
-
 -- above by k at most
 pub record Above (k : ℕ) (a b : ℤ) : Type 0 where
   pub by : a ≤ℤ (b +ℤ pos k)

@@ -126,10 +126,3 @@ half-away-mono {a = negsuc m} {b = pos n} h d = omega (arith, linear, neg (pos (
 half-away-mono {a = negsuc m} {b = negsuc n} h d =
     let k = half-up-mono {m = suc n} {n = suc m} (omega (arith, le-out h)) d in
     omega (arith, linear, neg (pos (halfUp (suc m) d)), neg (pos (halfUp (suc n) d)))
-
--- a quotient within whole limits is rounded to a number within them
-pub half-away-low : (z : ℤ) {d : ℕ} → 0 < d → (lo : ℤ) → (pos d *ℤ lo) ≤ℤ z → lo ≤ℤ halfAway z d
-half-away-low z {d} p lo h = omega (arith, linear, half-away-whole lo p, half-away-mono h d)
-
-pub half-away-high : (z : ℤ) {d : ℕ} → 0 < d → (hi : ℤ) → z ≤ℤ (pos d *ℤ hi) → halfAway z d ≤ℤ hi
-half-away-high z {d} p hi h = omega (arith, linear, half-away-whole hi p, half-away-mono h d)

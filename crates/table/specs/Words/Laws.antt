@@ -72,7 +72,3 @@ clear-high word k h = rw (← add-sub-of-le h, ← shr-shr word 3, ← shr-shr (
 -- word i of a block is word base + i of the table
 pub block-at : (words : List ℕ) (base i : ℕ) → i < 32 → getD (blockAt words base) i 0 ≡ getD words (base + i) 0
 block-at words base i h = rw (getD-take, getD-drop)
-
--- a block that ends within the table has 32 words
-pub block-length : (words : List ℕ) (base : ℕ) → base + 32 ≤ length words → length (blockAt words base) ≡ 32
-block-length words base h = simp (length-take, length-drop) (omega arith)
