@@ -219,8 +219,11 @@ uint8_t plain_reset(uint16_t *words, size_t words_length, int64_t *records, size
     return 0;
 }
 
-uint8_t plain_store(uint16_t *words, size_t words_length, uint16_t address, uint16_t value) {
-    return words_length == WORDS ? store(words, address, value) : 5;
+uint8_t plain_store(uint16_t *words, size_t words_length, int64_t *records, size_t records_length, uint16_t address,
+    uint16_t value) {
+    (void)records; /* a store looks at no record */
+    if (words_length != WORDS || records_length != NUMBERS) return 5;
+    return store(words, address, value);
 }
 
 uint8_t plain_sample(uint16_t *words, size_t words_length, int64_t *records, size_t records_length, uint8_t loop, uint16_t raw,

@@ -9,7 +9,8 @@
 
 uint8_t plain_reset(uint16_t *words, size_t words_length, int64_t *records, size_t records_length);
 
-uint8_t plain_store(uint16_t *words, size_t words_length, uint16_t address, uint16_t value);
+uint8_t plain_store(uint16_t *words, size_t words_length, int64_t *records, size_t records_length, uint16_t address,
+    uint16_t value);
 
 uint8_t plain_sample(uint16_t *words, size_t words_length, int64_t *records, size_t records_length, uint8_t loop, uint16_t raw,
     uint16_t line[4]);

@@ -24,7 +24,9 @@ static uint16_t words[KEXBARDI_WORDS], raws[RAWS];
 static int64_t records[KEXBARDI_NUMBERS];
 static unsigned refused;
 
-static void store(unsigned address, unsigned value) { refused += STORE(words, KEXBARDI_WORDS, (uint16_t)address, (uint16_t)value) != 0; }
+static void store(unsigned address, unsigned value) {
+    refused += STORE(words, KEXBARDI_WORDS, records, KEXBARDI_NUMBERS, (uint16_t)address, (uint16_t)value) != 0;
+}
 
 static unsigned bcd(unsigned n) { return n / 1000 % 10 << 12 | n / 100 % 10 << 8 | n / 10 % 10 << 4 | n % 10; }
 

@@ -20,7 +20,7 @@ static int refused(uint8_t answer) {
 }
 
 static void store(uint16_t address, uint16_t value) {
-    if (refused(kexbardi_store(words, KEXBARDI_WORDS, address, value))) return;
+    if (refused(kexbardi_store(words, KEXBARDI_WORDS, records, KEXBARDI_NUMBERS, address, value))) return;
     printf("%u set %u %u\n", calls, address, value);
 }
 

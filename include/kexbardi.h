@@ -1,4 +1,4 @@
-/* Kexbardi: sixteen PID loops that behave as those of the D4-454 controller do, as a part to link.
+/* Kexbardi: sixteen PID loops with the behaviour of the D4-454 controller, as a part to link.
  *
  * Every function works on memory that the caller lends, allocates nothing and keeps nothing between
  * calls, so any number of desks can run side by side, each in a thread of its own.
@@ -31,7 +31,7 @@ extern "C" {
 #endif
 
 /* The version of the functions and of the layout below: major, minor, patch as MMmmpp. */
-#define KEXBARDI_VERSION 10000
+#define KEXBARDI_VERSION 20000
 
 /* ---- the words */
 
@@ -73,31 +73,44 @@ enum kexbardi_word {
 #define KEXBARDI_FIELDS 8      /* numbers of each record */
 #define KEXBARDI_NUMBERS 128   /* length of the records: 16 of 8 numbers, loop 1 first */
 
-/* The numbers of a record, in order. A record at reset is eight zeros. */
+/* The numbers of a record, in order, and the lowest and highest that each may be. Bias and output count units,
+ * of which a count has 262,144. A record at reset is eight zeros.
+ *
+ *                 lowest                    highest
+ *   mode          0                         2                       0 Manual, 1 Automatic, 2 Cascade
+ *   bias          -4,503,599,627,370,496    4,503,599,627,370,496   2^52 units
+ *   output        0                         17,179,607,040          65,535 counts
+ *   last PV       0                         65,535
+ *   PV before it  0                         65,535
+ *   last error    -65,535                   65,535
+ *   velocity      0                         1                       the form last used: 0 position, 1 velocity
+ *   sampled       0                         1                       1 once a sample of the loop was accepted
+ *
+ * A record with a number outside these is refused with 5, and all eight numbers stay as they are. */
 enum kexbardi_field {
-    KEXBARDI_FIELD_MODE = 0,      /* 0 Manual, 1 Automatic, 2 Cascade */
-    KEXBARDI_FIELD_BIAS = 1,      /* in 1/262,144 of a count: -2^52 to 2^52 */
-    KEXBARDI_FIELD_OUTPUT = 2,    /* in 1/262,144 of a count: 0 to 65,535 counts */
-    KEXBARDI_FIELD_LAST_PV = 3,   /* 0 to 65,535 */
-    KEXBARDI_FIELD_PRIOR_PV = 4,  /* the PV before the last: 0 to 65,535 */
-    KEXBARDI_FIELD_ERROR = 5,     /* the last error: -65,535 to 65,535 */
-    KEXBARDI_FIELD_VELOCITY = 6,  /* the last algorithm: 0 position, 1 velocity */
-    KEXBARDI_FIELD_SAMPLED = 7    /* whether a sample was ever accepted: 0 or 1 */
+    KEXBARDI_FIELD_MODE = 0,
+    KEXBARDI_FIELD_BIAS = 1,
+    KEXBARDI_FIELD_OUTPUT = 2,
+    KEXBARDI_FIELD_LAST_PV = 3,
+    KEXBARDI_FIELD_PRIOR_PV = 4,
+    KEXBARDI_FIELD_ERROR = 5,
+    KEXBARDI_FIELD_VELOCITY = 6,
+    KEXBARDI_FIELD_SAMPLED = 7
 };
 
-/* ---- the refusals, in the words of the table that numbers them */
+/* ---- the refusals, by the numbers that instructors know from drill files */
 
 enum kexbardi_refusal {
     KEXBARDI_ACCEPTED = 0,
-    KEXBARDI_CUT = 1,      /* one byte remains in place of a length, or fewer stand behind it than it says; ends the file */
-    KEXBARDI_KIND = 2,     /* length below 2, or kind neither 1 nor 2 */
-    KEXBARDI_LENGTH = 3,   /* length not the kind's */
-    KEXBARDI_LOOP = 4,     /* sample for a loop outside 1 to 16 */
-    KEXBARDI_MEMORY = 5,   /* direct call: memory not 1,024 words, or, for a sample, a field of that loop's carried record out of range */
-    KEXBARDI_STORE = 6,    /* store above 1,023, or to offset 3, 4, 6 or 29 of a loop */
-    KEXBARDI_DIGIT = 7,    /* sample: a digit above 9 in words 7 to 10 */
+    KEXBARDI_CUT = 1,      /* file: it ends inside a record, which is its last */
+    KEXBARDI_KIND = 2,     /* file: a record of no kind, or of one that is unknown */
+    KEXBARDI_LENGTH = 3,   /* file: a record whose length its kind does not have */
+    KEXBARDI_LOOP = 4,     /* no loop of that number: loops are 1 to 16 */
+    KEXBARDI_MEMORY = 5,   /* the lent memory does not have its length, or a number of the loop's record is out of range */
+    KEXBARDI_STORE = 6,    /* store: the address is above 1,023, or that word is written by the engine only */
+    KEXBARDI_DIGIT = 7,    /* sample: period, gain, reset or rate has a digit above 9 */
     KEXBARDI_SETTING = 8,  /* sample: a setting that is not allowed (docs/INTEGRATION.md lists them) */
-    KEXBARDI_ABOVE = 9     /* sample: raw PV above full scale */
+    KEXBARDI_ABOVE = 9     /* sample: the raw PV is above full scale */
 };
 
 /* ---- the functions */
@@ -110,33 +123,36 @@ uint32_t kexbardi_version(void);
  * Answers 5 where words_length is not 1,024 or records_length is not 128; else 0. */
 uint8_t kexbardi_reset(uint16_t *words, size_t words_length, int64_t *records, size_t records_length);
 
-/* Stores a value at an address of the words.
- * Answers 5 where words_length is not 1,024; 6 where the address is above 1,023 or one that only the
- * engine writes (offset 3, 4, 6 or 29 of a loop); else 0, and that one word has the value. */
-uint8_t kexbardi_store(uint16_t *words, size_t words_length, uint16_t address, uint16_t value);
+/* Stores a value at an address of the words. The desk is lent whole; no record is looked at or changed.
+ * Answers 5 where words_length is not 1,024 or records_length is not 128; 6 where the address is above 1,023
+ * or one that only the engine writes (offset 3, 4, 6 or 29 of a loop); else 0, and that one word has the
+ * value. */
+uint8_t kexbardi_store(uint16_t *words, size_t words_length, int64_t *records, size_t records_length, uint16_t address,
+    uint16_t value);
 
 /* What kexbardi_sample writes to its line: what the program `drill` prints of a sample. */
 enum kexbardi_line { KEXBARDI_LINE_SETPOINT = 0, KEXBARDI_LINE_PV = 1, KEXBARDI_LINE_OUTPUT = 2, KEXBARDI_LINE_STATUS = 3 };
 
 /* One sample of a loop, 1 to 16, with a raw PV.
- * Answers the first of these that holds: 5 for words_length not 1,024 or records_length not 128; 4 for
- * no such loop; 5 where the loop's record holds a mode, a PV or a flag that is no such value, or a number
- * out of range; 7, 8 or 9 as the table says. Else 0: words 0, 2, 3, 4, 5 and 6 of the loop, its
- * record and the line are written, and nothing else. Other loops' records are not looked at. */
+ * Answers the first of these that holds: 5 for words_length not 1,024 or records_length not 128; 4 for no
+ * such loop; 5 where a number of the loop's record is out of range; 7, 8, 9. Else 0: words 0, 2, 3, 4, 5 and
+ * 6 of the loop, its record and the line are written, and nothing else. Other loops' records are not looked
+ * at, and may hold anything. */
 uint8_t kexbardi_sample(uint16_t *words, size_t words_length, int64_t *records, size_t records_length, uint8_t loop, uint16_t raw,
     uint16_t line[4]);
 
-/* The fields of a loop's record copied out, if they are a record: the way to test a desk that was loaded.
- * Answers 5 where records_length is not 128; 4 for no such loop; 5 where the record holds a mode, a PV or
- * a flag that is no such value, or a number out of range; else 0, and `fields` has its numbers. */
+/* The numbers of a loop's record copied out as they stand, if all are in range: the way to test a desk that
+ * was loaded.
+ * Answers 5 where records_length is not 128; 4 for no such loop; 5 where a number of the record is out of
+ * range; else 0, and `fields` has the eight numbers. */
 uint8_t kexbardi_record(const int64_t *records, size_t records_length, uint8_t loop, int64_t fields[8]);
 
 /* A whole drill file, of any length, carried out on the words and records.
- * Answers 5 where words_length is not 1,024 or records_length is not 128, and nothing is read. Else 0: each
- * record of the file is carried out or refused, `count` says how many there were and `refused` how many of
- * them were refused, and the answer to each (0 or its number) goes into `answers` in order, as many as fit.
- * A sample of a loop whose record is none, or out of range, is refused with 5 as in kexbardi_sample; that
- * record's numbers stay. */
+ * Answers 5 where words_length is not 1,024 or records_length is not 128; nothing is read then, and nothing
+ * written, not into `answers` either. Else 0: each record of the file is carried out or refused, `count` says
+ * how many there were and `refused` how many of them were refused, and the answer to each (0 or its number)
+ * goes into `answers` in order, as many as fit. A sample of a loop whose record has a number out of range is
+ * refused with 5 as in kexbardi_sample: all eight numbers stay, and the reading goes on. */
 uint8_t kexbardi_run(const uint8_t *file, size_t file_length, uint16_t *words, size_t words_length, int64_t *records,
     size_t records_length, uint8_t *answers, size_t answers_length, size_t *count, size_t *refused);
 

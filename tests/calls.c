@@ -70,9 +70,9 @@ static uint8_t reset_of(size_t words_length, size_t records_length) {
     return answer;
 }
 
-static uint8_t store_of(size_t words_length, unsigned address, unsigned value) {
+static uint8_t store_of(size_t words_length, size_t records_length, unsigned address, unsigned value) {
     keep();
-    uint8_t answer = kexbardi_store(words, words_length, (uint16_t)address, (uint16_t)value);
+    uint8_t answer = kexbardi_store(words, words_length, records, records_length, (uint16_t)address, (uint16_t)value);
     if (answer == 0 && address < KEXBARDI_WORDS) before.words[GUARD + address] = (uint16_t)value;
     nothing_else_changed(answer);
     return answer;
@@ -83,12 +83,11 @@ static uint8_t sample_of(size_t words_length, size_t records_length, unsigned lo
     uint8_t answer = kexbardi_sample(words, words_length, records, records_length, (uint8_t)loop, (uint16_t)raw, line);
     if (answer == 0 && loop >= 1 && loop <= KEXBARDI_LOOPS) {
         const uint16_t *w = words + KEXBARDI_ADDRESS(loop, 0);
-        free_to_write(w, sizeof *w);
+        before.words[GUARD + KEXBARDI_ADDRESS(loop, 0)] &= 0xfff8; /* the request bits are cleared, the others stay */
         free_to_write(w + 2, 5 * sizeof *w);
         free_to_write(records + KEXBARDI_FIELDS * (loop - 1), KEXBARDI_FIELDS * sizeof *records);
         free_to_write(line, 4 * sizeof *line);
         check("the line is words 2, 3, 5 and 6", line[0] == w[2] && line[1] == w[3] && line[2] == w[5] && line[3] == w[6]);
-        check("the request bits are cleared", w[0] == (before.words[GUARD + KEXBARDI_ADDRESS(loop, 0)] & ~7));
     }
     nothing_else_changed(answer);
     return answer;
@@ -133,13 +132,23 @@ static uint8_t print_of(const uint8_t *from, size_t bytes, size_t room) {
 
 static uint8_t reset(void) { return reset_of(KEXBARDI_WORDS, KEXBARDI_NUMBERS); }
 
-static uint8_t store(unsigned address, unsigned value) { return store_of(KEXBARDI_WORDS, address, value); }
+static uint8_t store(unsigned address, unsigned value) { return store_of(KEXBARDI_WORDS, KEXBARDI_NUMBERS, address, value); }
 
 static uint8_t sample(unsigned loop, unsigned raw) { return sample_of(KEXBARDI_WORDS, KEXBARDI_NUMBERS, loop, raw); }
 
 static uint8_t record(unsigned loop) { return record_of(KEXBARDI_NUMBERS, loop); }
 
 static uint8_t run(size_t room) { return run_of(KEXBARDI_WORDS, KEXBARDI_NUMBERS, room); }
+
+/* ---- the bytes of a drill file */
+
+static void byte(unsigned value) { file[size++] = (uint8_t)value; }
+
+static void pair(unsigned value) { byte(value & 255), byte(value >> 8); }
+
+static void file_store(unsigned address, unsigned value) { pair(6), pair(1), pair(address), pair(value); }
+
+static void file_sample(unsigned loop, unsigned raw) { pair(5), pair(2), byte(loop), pair(raw); }
 
 /* ---- loop A */
 
@@ -171,10 +180,20 @@ static void check_line(unsigned setpoint, unsigned pv, unsigned output, unsigned
     equals("status", line[KEXBARDI_LINE_STATUS], status);
 }
 
-static void check_record(unsigned loop, int64_t mode, int64_t bias, int64_t output, int64_t last, int64_t prior, int64_t error) {
-    const int64_t expected[KEXBARDI_FIELDS] = {mode, 262144 * bias, 262144 * output, last, prior, error, 0, 1};
+#define UNITS(counts) ((int64_t)262144 * (counts))
+
+/* A loop's record; bias and output are in units. */
+static void check_record(unsigned loop, int64_t mode, int64_t bias, int64_t output, int64_t last, int64_t prior, int64_t error,
+    int64_t velocity, int64_t sampled) {
     equals("record", record(loop), 0);
-    for (unsigned n = 0; n < KEXBARDI_FIELDS; n++) equals("a number of the record", fields[n], expected[n]);
+    equals("mode", fields[KEXBARDI_FIELD_MODE], mode);
+    equals("carried bias", fields[KEXBARDI_FIELD_BIAS], bias);
+    equals("carried output", fields[KEXBARDI_FIELD_OUTPUT], output);
+    equals("last PV", fields[KEXBARDI_FIELD_LAST_PV], last);
+    equals("PV before it", fields[KEXBARDI_FIELD_PRIOR_PV], prior);
+    equals("last error", fields[KEXBARDI_FIELD_ERROR], error);
+    equals("velocity", fields[KEXBARDI_FIELD_VELOCITY], velocity);
+    equals("sampled", fields[KEXBARDI_FIELD_SAMPLED], sampled);
 }
 
 static void check_worked_loop(unsigned loop) {
@@ -182,12 +201,12 @@ static void check_worked_loop(unsigned loop) {
     equals("line 7", sample(loop, 1000), 0);
     check_line(1000, 1000, 2000, 0x0002);
     equals("bias", words[KEXBARDI_ADDRESS(loop, KEXBARDI_BIAS)], 2000);
-    check_record(loop, 1, 2000, 2000, 1000, 1000, 0);
+    check_record(loop, 1, UNITS(2000), UNITS(2000), 1000, 1000, 0, 0, 1);
     equals("line 8", store(KEXBARDI_ADDRESS(loop, KEXBARDI_SETPOINT), 1500), 0);
     equals("line 9", sample(loop, 1000), 0);
     check_line(1500, 1000, 3100, 0x0002);
     equals("bias", words[KEXBARDI_ADDRESS(loop, KEXBARDI_BIAS)], 2100);
-    check_record(loop, 1, 2100, 3100, 1000, 1000, 500);
+    check_record(loop, 1, UNITS(2100), UNITS(3100), 1000, 1000, 500, 0, 1);
     equals("line 10", sample(17, 0), 4);
 }
 
@@ -234,6 +253,16 @@ static const struct worked further_cases[] = {
     {"Manual", 2, {{0, 1}, {25, 1500}, SAME}, {1000, 0, 0}, 1, 1500, 2000, 0x0001},
     {"half a count goes up", 2, {{8, 0x0050}, {9, 0x9999}, {2, 1001}}, {1000, 0, 0}, 1, 2001, 2000, 0x0002},
     {"rate of change, not at first", 2 | 16384, {SAME, SAME, SAME}, {1001, 0, 0}, 1, 3098, -1, 0x0202},
+    /* e = 600: 2,000 + 120 + 1,200 + 200 is above 3,000; the bias is 3,000 - (1,200 + 200), not with the rate term's sign turned */
+    {"rate term at the limit", 2, {{10, 256}, {25, 3000}, SAME}, {900, 0, 0}, 1, 3000, 1600, 0x0802},
+    /* e = 500 reversed: 2,000 - 100 - 1,000 is below 1,000; the bias is 1,000 + 1,000 */
+    {"below the low limit", 2, {{0, 16}, {24, 1000}, SAME}, {1000, 0, 0}, 1, 1000, 2000, 0x0802},
+    /* 0.10 minutes are 6 s: I = 2 x 500/6 = 166.67 */
+    {"reset 0.10 minutes", 2, {{1, 16}, {9, 0x0010}, SAME}, {1000, 0, 0}, 1, 3167, 2167, 0x0002},
+    /* e = 400: 2,000 + 80 + 800 less D = 2 x 10 x 100 */
+    {"rate 10.00, PV 1100", 2, {{10, 0x1000}, SAME, SAME}, {1100, 0, 0}, 1, 880, 2080, 0x0002},
+    /* no P; I = 1 x 500/1 */
+    {"gain 0, reset 1.00", 2, {{8, 0}, {9, 0x0100}, SAME}, {1000, 0, 0}, 1, 2500, 2500, 0x0002},
 };
 
 static void worked_case(const struct worked *c) {
@@ -281,6 +310,34 @@ static void alarms(void) {
     store(0, 2 | 64);
     equals("sample", sample(1, 1000), 0);
     equals("root of 1,000 in 12 bits", line[KEXBARDI_LINE_PV], 2023);
+    equals("sample", sample(1, 4095), 0);
+    equals("root of 4,095", line[KEXBARDI_LINE_PV], 4095);
+    equals("sample", sample(1, 1), 0);
+    equals("root of 1", line[KEXBARDI_LINE_PV], 63); /* 63 x 63 = 3,969, 64 x 64 = 4,096 */
+    equals("sample", sample(1, 0), 0);
+    equals("root of 0", line[KEXBARDI_LINE_PV], 0);
+}
+
+/* T3. Bit 10 in Manual, PV 1,000, with the limits 100, 200, 3,000, 3,500, deviation 100, 200 and hysteresis 10, one of
+ * them changed so that two are equal. */
+static void limits_equal(unsigned offset, unsigned value, unsigned watched, unsigned status) {
+    static const uint16_t limits[7] = {100, 200, 3000, 3500, 100, 200, 0};
+    begin_loop_a("limits out of order");
+    for (unsigned n = 0; n < 7; n++) store(KEXBARDI_LOW_LOW + n, limits[n]);
+    store(KEXBARDI_HYSTERESIS, 10), store(offset, value), store(KEXBARDI_MODE_1, 1 | watched);
+    equals("sample", sample(1, 1000), 0);
+    equals("status", line[KEXBARDI_LINE_STATUS], status);
+}
+
+static void limits_out_of_order(void) {
+    limits_equal(601, 0, 4096 | 8192, 0x0001); /* none of them */
+    limits_equal(KEXBARDI_LOW_LOW, 200, 4096, 0x0401);
+    limits_equal(KEXBARDI_LOW, 3000, 4096, 0x0411); /* and below low */
+    limits_equal(KEXBARDI_HIGH_HIGH, 3000, 4096, 0x0401);
+    limits_equal(KEXBARDI_LOW_LOW, 200, 8192, 0x0001);
+    limits_equal(KEXBARDI_RED, 100, 8192, 0x0401);
+    limits_equal(KEXBARDI_YELLOW, 10, 8192, 0x0401); /* equal to the hysteresis */
+    limits_equal(KEXBARDI_RED, 100, 4096, 0x0001);
 }
 
 /* ---- cascade */
@@ -316,28 +373,51 @@ static void cascade(void) {
 
 /* ---- refusals of a direct call */
 
+/* Every call on a desk whose memory does not have its lengths: 5, whatever else is wrong. */
+static void wrong_lengths(size_t words_length, size_t records_length) {
+    equals("reset", reset_of(words_length, records_length), 5);
+    equals("store", store_of(words_length, records_length, 2, 1500), 5);
+    equals("store: 5 before 6", store_of(words_length, records_length, 3, 1500), 5);
+    equals("store: 5 before 6", store_of(words_length, records_length, 1024, 1500), 5);
+    equals("sample", sample_of(words_length, records_length, 1, 1000), 5);
+    equals("sample: 5 before 4", sample_of(words_length, records_length, 17, 1000), 5);
+    equals("sample: 5 before 4", sample_of(words_length, records_length, 0, 1000), 5);
+    size = 0;
+    equals("run: an empty file", run_of(words_length, records_length, ANSWERS), 5);
+    file_sample(1, 1000);
+    equals("run: one sample", run_of(words_length, records_length, ANSWERS), 5);
+    memset(file, 0xff, size = 512);
+    equals("run: a cut record", run_of(words_length, records_length, ANSWERS), 5);
+    if (records_length == KEXBARDI_NUMBERS) return;
+    equals("record", record_of(records_length, 1), 5);
+    equals("record: 5 before 4", record_of(records_length, 17), 5);
+    equals("record: 5 before 4", record_of(records_length, 0), 5);
+}
+
 static void lengths(void) {
-    static const size_t bad_words[] = {0, 1, 512, 1023, 1025, 1024 + GUARD}, bad_records[] = {0, 1, 16, 127, 129, 128 + GUARD};
+    static const size_t word_counts[] = {1024, 0, 1, 128, 512, 1023, 1025, 1024 + GUARD},
+                        number_counts[] = {128, 0, 1, 8, 16, 127, 129, 128 + GUARD};
     begin_loop_a("lengths");
     equals("sample", sample(1, 1000), 0);
-    for (int n = 0; n < 6; n++) {
-        equals("reset: words", reset_of(bad_words[n], KEXBARDI_NUMBERS), 5);
-        equals("reset: records", reset_of(KEXBARDI_WORDS, bad_records[n]), 5);
-        equals("reset: both", reset_of(bad_words[n], bad_records[n]), 5);
-        equals("store", store_of(bad_words[n], 2, 1500), 5);
-        equals("store: 5 before 6", store_of(bad_words[n], 3, 1500), 5);
-        equals("sample: words", sample_of(bad_words[n], KEXBARDI_NUMBERS, 1, 1000), 5);
-        equals("sample: records", sample_of(KEXBARDI_WORDS, bad_records[n], 1, 1000), 5);
-        equals("sample: both", sample_of(bad_words[n], bad_records[n], 1, 1000), 5);
-        equals("sample: lengths before 4", sample_of(bad_words[n], KEXBARDI_NUMBERS, 17, 1000), 5);
-        equals("record", record_of(bad_records[n], 1), 5);
-        equals("record: length before 4", record_of(bad_records[n], 0), 5);
-        memset(file, 0xff, 512), size = 512;
-        equals("run: words", run_of(bad_words[n], KEXBARDI_NUMBERS, ANSWERS), 5);
-        equals("run: records", run_of(KEXBARDI_WORDS, bad_records[n], ANSWERS), 5);
-        equals("run: both", run_of(bad_words[n], bad_records[n], ANSWERS), 5);
-        size = 0;
-        equals("run: an empty file", run_of(bad_words[n], KEXBARDI_NUMBERS, ANSWERS), 5);
+    for (int n = 0; n < 8; n++)
+        for (int m = 0; m < 8; m++)
+            if (n > 0 || m > 0) wrong_lengths(word_counts[n], number_counts[m]);
+    equals("the right lengths", sample_of(word_counts[0], number_counts[0], 1, 1000), 0);
+}
+
+/* All 64 sums of these faults in one sample of loop A: 1,023 words lent, no such loop, a number of the record
+ * out of range, a digit above 9, a setting, a raw PV above full scale. The first that holds is answered. */
+static void order(void) {
+    static const uint8_t numbers[] = {KEXBARDI_MEMORY, KEXBARDI_LOOP, KEXBARDI_MEMORY, KEXBARDI_DIGIT, KEXBARDI_SETTING,
+        KEXBARDI_ABOVE, KEXBARDI_ACCEPTED};
+    for (unsigned faults = 0; faults < 64; faults++) {
+        begin_loop_a("order of refusals");
+        unsigned first = 0;
+        while (first < 6 && !(faults >> first & 1)) first++;
+        if (faults & 4) memset(records, 0xff, KEXBARDI_NUMBERS * sizeof *records);
+        if (faults & 8) words[KEXBARDI_GAIN] = 0x000a;
+        if (faults & 16) words[KEXBARDI_RESET] = 0;
+        equals("sample", sample_of(faults & 1 ? 1023 : 1024, 128, faults & 2 ? 17 : 1, faults & 32 ? 4096 : 1000), numbers[first]);
     }
 }
 
@@ -368,7 +448,7 @@ static void stores(void) {
     static const uint16_t far_off[] = {1024, 1025, 1056, 2048, 4095, 32767, 32768, 65535};
     begin("stores");
     for (unsigned address = 0; address < KEXBARDI_WORDS; address++)
-        equals("store", store(address, 40000 + address), engines_own(address) ? 6 : 0);
+        equals("store", store(address, 40000 + address), engines_own(address) ? KEXBARDI_STORE : KEXBARDI_ACCEPTED);
     for (unsigned address = 0; address < KEXBARDI_WORDS; address++)
         equals("word", words[address], engines_own(address) ? 0 : 40000 + address);
     for (size_t n = 0; n < sizeof far_off / sizeof *far_off; n++) equals("above 1,023", store(far_off[n], 7), 6);
@@ -444,42 +524,320 @@ static void raw_above(void) {
     equals("65,535", sample(1, 65535), 0);
 }
 
+/* ---- records of the caller's own making: what no drill file can show */
+
+/* Loop A as an accepted sample leaves it, but for its record, which is lent; bias and output are in units. */
+static void begin_lent(const char *name, int64_t mode, int64_t bias, int64_t output, int64_t last, int64_t prior, int64_t error,
+    int64_t velocity, int64_t sampled) {
+    begin_loop_a(name);
+    words[KEXBARDI_MODE_1] = 0, words[KEXBARDI_SETPOINT] = 1000;
+    records[0] = mode, records[1] = bias, records[2] = output, records[3] = last, records[4] = prior, records[5] = error;
+    records[6] = velocity, records[7] = sampled;
+}
+
+/* Automatic, sampled, both PVs 1,000. The setpoint is 1,000, so e = 0 and every term is 0: the output is the bias, 0.
+ * That is the low limit, but p = s, so bit 11 is off. */
+static void begin_at_rest(int64_t output, int64_t error) {
+    begin_lent("a lent record at an end of its ranges", 1, 0, output, 1000, 1000, error, 0, 1);
+    words[KEXBARDI_PERIOD] = 0x0005;
+}
+
+static void accepted_at_rest(int64_t output, int64_t error) {
+    begin_at_rest(output, error);
+    equals("sample", sample(1, 1000), 0);
+    check_line(1000, 1000, 0, 0x0002);
+    equals("bias", words[KEXBARDI_BIAS], 0);
+    check_record(1, 1, 0, 0, 1000, 1000, 0, 0, 1);
+}
+
+static void lent_ends(void) {
+    begin_at_rest(0, 65536);
+    equals("error 65,536", sample(1, 1000), 5);
+    begin_at_rest(0, -65536);
+    equals("error -65,536", sample(1, 1000), 5);
+    accepted_at_rest(0, 65535);
+    accepted_at_rest(0, -65535);
+    begin_at_rest(-1, 0);
+    equals("output -1, no such loop", sample(17, 1000), 4);
+    equals("output -1", sample(1, 1000), 5);
+    begin_at_rest(INT64_C(17179607041), 0);
+    equals("output 17,179,607,041", sample(1, 1000), 5);
+    accepted_at_rest(INT64_C(17179607040), 0);
+
+    /* velocity from that output: 65,535 counts and no term, brought to the high limit; p = s, so bit 11 is off */
+    begin_lent("velocity from the highest output", 1, UNITS(-7), INT64_C(17179607040), 1000, 1000, 0, 1, 1);
+    words[KEXBARDI_MODE_1] = 32;
+    equals("sample", sample(1, 1000), 0);
+    check_line(1000, 1000, 4095, 0x0002);
+    equals("bias", words[KEXBARDI_BIAS], 0);
+    check_record(1, 1, UNITS(-7), UNITS(4095), 1000, 1000, 0, 1, 1);
+
+    /* velocity from error -65,535, gain 2.00: P = 2 x (1,000 + 65,535) = 133,070 and I = 2 x 1,000/10 = 200, far above */
+    begin_lent("velocity from the lowest error", 1, 0, UNITS(100), 0, 0, -65535, 1, 1);
+    words[KEXBARDI_MODE_1] = 32;
+    equals("sample", sample(1, 0), 0);
+    check_line(1000, 0, 4095, 0x0802);
+    check_record(1, 1, 0, UNITS(4095), 0, 0, 1000, 1, 1);
+}
+
+/* P5. Automatic or Cascade is carried but no sample was accepted: no entry, so the setpoint stays and bias and
+ * output are the carried ones; the terms take p for both last PVs and e for the last error. Setpoint 1,200 and
+ * p 1,000: e = 200, P = 2.00 x 200 = 400, I = 2.00 x 1.00 x 200/10.00 = 40, and D = 0 though the rate is 1.00. */
+static void begin_unsampled(const char *name, int64_t mode, int64_t velocity) {
+    begin_lent(name, mode, UNITS(500), UNITS(700), 3000, 100, 65535, velocity, 0);
+    words[KEXBARDI_SETPOINT] = 1200, words[KEXBARDI_RATE] = 0x0100;
+}
+
+static void first_samples(void) {
+    /* 500 + 40 + 400; with last PV 3,000, D = 2 x (1,000 - 3,000) and the output 4,095; as an entry, 2,000 */
+    begin_unsampled("first sample in Automatic", 1, 0);
+    equals("sample", sample(1, 1000), 0);
+    check_line(1200, 1000, 940, 0x0002);
+    equals("bias", words[KEXBARDI_BIAS], 540);
+    check_record(1, 1, UNITS(540), UNITS(940), 1000, 1000, 200, 0, 1);
+
+    /* the same setpoint by the pointer, word 2 aside */
+    begin_unsampled("first sample in Cascade", 2, 0);
+    words[KEXBARDI_SETPOINT] = 9999, words[KEXBARDI_POINTER] = 600, words[600] = 1200;
+    equals("sample", sample(1, 1000), 0);
+    check_line(1200, 1000, 940, 0x0004);
+    check_record(1, 2, UNITS(540), UNITS(940), 1000, 1000, 200, 0, 1);
+
+    /* P of e - e = 0 and D of p - 2p + p = 0, so 700 + 40; the bias stays, and word 4 with it */
+    begin_unsampled("first sample in velocity form", 1, 1);
+    words[KEXBARDI_MODE_1] = 32, words[KEXBARDI_BIAS] = 123;
+    equals("sample", sample(1, 1000), 0);
+    check_line(1200, 1000, 740, 0x0002);
+    equals("bias", words[KEXBARDI_BIAS], 123);
+    check_record(1, 1, UNITS(500), UNITS(740), 1000, 1000, 200, 1, 1);
+
+    /* P4: the algorithm is compared all the same. An entry: bias and output are word 5, s becomes p */
+    begin_unsampled("velocity carried, position set", 1, 1);
+    equals("sample", sample(1, 1000), 0);
+    check_line(1000, 1000, 2000, 0x0002);
+    equals("bias", words[KEXBARDI_BIAS], 2000);
+    check_record(1, 1, UNITS(2000), UNITS(2000), 1000, 1000, 0, 0, 1);
+
+    begin_unsampled("position carried, velocity set", 1, 0);
+    words[KEXBARDI_MODE_1] = 32, words[KEXBARDI_BIAS] = 123;
+    equals("sample", sample(1, 1000), 0);
+    check_line(1000, 1000, 2000, 0x0002);
+    equals("bias", words[KEXBARDI_BIAS], 123);
+    check_record(1, 1, UNITS(2000), UNITS(2000), 1000, 1000, 0, 1, 1);
+}
+
+/* Bit 9: PV 1,000 after 3,000 exceeds a rate of change of 1,999, not of 2,000; and none at the first accepted sample. */
+static void change_alarm(int sampled, unsigned limit, unsigned status) {
+    begin_lent("rate of change", 0, 0, 0, 3000, 3000, 0, 0, sampled);
+    words[KEXBARDI_MODE_1] = 16384, words[KEXBARDI_CHANGE] = (uint16_t)limit;
+    equals("sample", sample(1, 1000), 0);
+    check_line(1000, 1000, 2000, status);
+    check_record(1, 0, 0, 0, 1000, sampled ? 3000 : 1000, 0, 0, 1);
+}
+
+static void change_alarms(void) {
+    change_alarm(1, 1999, 0x0201);
+    change_alarm(1, 2000, 0x0001);
+    change_alarm(0, 1999, 0x0001);
+}
+
+/* P8, P14. A sample in Manual with setpoint 1,500 and high limit 2,500, after one in Automatic that carried bias and
+ * output 2,000 and PV 1,000: word 5, 3,000 by hand, is brought to 2,500; word 4, bias and output stay; PV, error and
+ * algorithm are recorded. */
+static void in_manual(const char *name, unsigned bits, unsigned deadband, unsigned pv, int64_t error) {
+    begin_loop_a(name);
+    equals("entry", sample(1, 1000), 0);
+    words[KEXBARDI_MODE_1] = (uint16_t)(1 | bits), words[KEXBARDI_SETPOINT] = 1500, words[KEXBARDI_DEADBAND] = (uint16_t)deadband;
+    words[KEXBARDI_OUTPUT] = 3000, words[KEXBARDI_OUTPUT_HIGH] = 2500;
+    equals("sample", sample(1, pv), 0);
+    check_line(1500, pv, 2500, 0x0001);
+    equals("bias", words[KEXBARDI_BIAS], 2000);
+    check_record(1, 0, UNITS(2000), UNITS(2000), pv, 1000, error, bits >> 5 & 1, 1);
+}
+
+static void manual(void) {
+    in_manual("Manual", 0, 0, 1200, 300);
+    in_manual("Manual, velocity", 32, 0, 1200, 300);
+    in_manual("Manual, squared", 128, 0, 1200, 21);             /* 300 x 300/4,095 = 21.98, toward zero */
+    in_manual("Manual, squared below 0", 128, 0, 1800, -21);
+    in_manual("Manual, inside the deadband", 256, 301, 1200, 0);
+    in_manual("Manual, at the deadband", 256, 300, 1200, 300);
+    in_manual("Manual, both", 128 | 256, 100, 1200, 21);        /* 300 is not below 100, though 21 is */
+
+    /* word 5, 2,000, is brought up to 2,100; no limit touches what is carried, -5 and 65,535 with full scale 4,095 */
+    begin_lent("Manual, far off", 0, UNITS(-5), UNITS(65535), 60000, 50000, 7, 1, 1);
+    words[KEXBARDI_BIAS] = 123, words[KEXBARDI_OUTPUT_LOW] = 2100;
+    equals("sample", sample(1, 1100), 0);
+    check_line(1000, 1100, 2100, 0x0001);
+    equals("bias", words[KEXBARDI_BIAS], 123);
+    check_record(1, 0, UNITS(-5), UNITS(65535), 1100, 60000, -100, 0, 1);
+}
+
+/* T1. The first sample of a loop, word 6 written from outside: an alarm that was on there is held. */
+static void first_held(const char *name, unsigned mode_1, unsigned stored, unsigned pv, unsigned status) {
+    begin_loop_a(name);
+    store(KEXBARDI_LOW_LOW, 100), store(KEXBARDI_LOW, 200), store(KEXBARDI_HIGH, 3000), store(KEXBARDI_HIGH_HIGH, 3500);
+    store(KEXBARDI_YELLOW, 100), store(KEXBARDI_RED, 200), store(KEXBARDI_HYSTERESIS, 10), store(KEXBARDI_SETPOINT, 1000);
+    store(KEXBARDI_MODE_1, mode_1);
+    words[KEXBARDI_STATUS] = (uint16_t)stored;
+    equals("sample", sample(1, pv), 0);
+    equals("status", words[KEXBARDI_STATUS], status);
+}
+
+static void held_at_first(void) {
+    const unsigned pv = 1 | 4096, deviation = 2 | 8 | 8192; /* in Manual; in Automatic with the setpoint kept */
+    first_held("high, was off", pv, 0x0000, 2991, 0x0001);
+    first_held("high, was on", pv, 0x0020, 2991, 0x0021);           /* 2,991 > 3,000 - 10 */
+    first_held("high, was on, cleared", pv, 0x0020, 2990, 0x0001);
+    first_held("high-high, was on", pv, 0x0040, 3491, 0x0061);      /* above high as well */
+    first_held("low, was on", pv, 0x0010, 209, 0x0011);             /* 209 < 200 + 10 */
+    first_held("low, was on, cleared", pv, 0x0010, 210, 0x0001);
+    first_held("low-low, was on", pv, 0x0008, 109, 0x0019);         /* below low as well */
+    first_held("low-low, was off", pv, 0x0010, 109, 0x0011);
+    first_held("yellow, was off", deviation, 0x0000, 1091, 0x0002);
+    first_held("yellow, was on", deviation, 0x0080, 1091, 0x0082);  /* 91 > 100 - 10 */
+    first_held("yellow, was on, cleared", deviation, 0x0080, 1090, 0x0002);
+    first_held("red, was on", deviation, 0x0100, 1191, 0x0182);     /* above yellow as well */
+    first_held("deviation in Manual", 1 | 8192, 0xffff, 1191, 0x0001);
+    first_held("nothing watched", 1, 0xffff, 1191, 0x0001);
+    first_held("all on before, all quiet", pv | 8192, 0xffff, 1000, 0x0001);
+
+    /* Hysteresis 200 above the high limit, 50: 0 > 50 - 200 holds the alarm until word 6 is written as 0. Bit 10 is on, for
+     * low-low and low are 0 both. */
+    begin_loop_a("hysteresis above the limit");
+    store(KEXBARDI_HIGH, 50), store(KEXBARDI_HIGH_HIGH, 60), store(KEXBARDI_HYSTERESIS, 200), store(KEXBARDI_MODE_1, pv);
+    equals("sample", sample(1, 51), 0);
+    check_line(0, 51, 2000, 0x0421);
+    equals("sample", sample(1, 0), 0);
+    check_line(0, 0, 2000, 0x0421);
+    words[KEXBARDI_STATUS] = 0;
+    equals("sample", sample(1, 0), 0);
+    check_line(0, 0, 2000, 0x0401);
+}
+
+/* Step 10. One position sample in Automatic, e = setpoint - 1,000 with P = 2e and I = e/5; bias as lent, the carried
+ * bias and output afterwards in units. Bit 11 is on where the output ends at a limit and e is not 0. */
+static void bias_word(const char *name, unsigned bits, int64_t lent_bias, unsigned setpoint, unsigned word, unsigned output_word,
+    int64_t bias, int64_t output, unsigned status) {
+    begin_lent(name, 1, lent_bias, 0, 1000, 1000, 0, 0, 1);
+    words[KEXBARDI_MODE_1] = (uint16_t)bits, words[KEXBARDI_SETPOINT] = (uint16_t)setpoint;
+    equals("sample", sample(1, 1000), 0);
+    check_line(setpoint, 1000, output_word, status);
+    equals("bias", words[KEXBARDI_BIAS], word);
+    check_record(1, 1, bias, output, 1000, 1000, setpoint - (int64_t)1000, 0, 1);
+}
+
+static void bias_words(void) {
+    const int64_t most = (int64_t)1 << 52, half = 131072;
+    /* e = -900, P = -1,800, I = -180: trial 5,500 - 180 = 5,320, output 3,520 */
+    bias_word("bias above full scale", 0, UNITS(5500), 100, 4095, 3520, UNITS(5320), UNITS(3520), 0x0002);
+    /* e = 1,000, P = 2,000, I = 200: trial -500 + 200 = -300, output 1,700 */
+    bias_word("bias below 0", 0, UNITS(-500), 2000, 0, 1700, UNITS(-300), UNITS(1700), 0x0002);
+    /* e = -900: trial 6,075 - 180 = 5,895, and 5,895 - 1,800 is the limit itself, so the bias becomes the trial */
+    bias_word("output at the limit", 0, UNITS(6075), 100, 4095, 4095, UNITS(5895), UNITS(4095), 0x0802);
+    /* one unit more is outside: the bias becomes 4,095 + 1,800, or with freeze stays as lent */
+    bias_word("a unit above", 0, UNITS(6075) + 1, 100, 4095, 4095, UNITS(5895), UNITS(4095), 0x0802);
+    bias_word("a unit above, freeze", 1024, UNITS(6075) + 1, 100, 4095, 4095, UNITS(6075) + 1, UNITS(4095), 0x0802);
+    /* e = 0: the output is the bias, and both words are its nearest count, halves up */
+    const int64_t near = UNITS(4094) + half;
+    bias_word("half a count", 0, near, 1000, 4095, 4095, near, near, 0x0002);
+    bias_word("a unit below half", 0, near - 1, 1000, 4094, 4094, near - 1, near - 1, 0x0002);
+    bias_word("half a count above 0", 0, half, 1000, 1, 1, half, half, 0x0002);
+    bias_word("a unit below that", 0, half - 1, 1000, 0, 0, half - 1, half - 1, 0x0002);
+    /* e = 0 and the ends of the range: the output is a limit; the bias becomes the limit, or with freeze stays */
+    bias_word("highest bias", 0, most, 1000, 4095, 4095, UNITS(4095), UNITS(4095), 0x0002);
+    bias_word("highest bias, freeze", 1024, most, 1000, 4095, 4095, most, UNITS(4095), 0x0002);
+    bias_word("lowest bias", 0, -most, 1000, 0, 0, 0, 0, 0x0002);
+    bias_word("lowest bias, freeze", 1024, -most, 1000, 0, 0, -most, 0, 0x0002);
+
+    /* the full scale of 15 bits: the same bias is a word as it is */
+    begin_lent("bias in 15 bits", 1, UNITS(5500), 0, 1000, 1000, 0, 0, 1);
+    words[KEXBARDI_MODE_2] = 2, words[KEXBARDI_SETPOINT] = 100;
+    equals("sample", sample(1, 1000), 0);
+    check_line(100, 1000, 3520, 0x0002);
+    equals("bias", words[KEXBARDI_BIAS], 5320);
+
+    /* 16 bits, frozen above full scale */
+    begin_lent("bias in 16 bits", 1, UNITS(70000), 0, 1000, 1000, 0, 0, 1);
+    words[KEXBARDI_MODE_1] = 1024, words[KEXBARDI_MODE_2] = 512;
+    equals("sample", sample(1, 1000), 0);
+    check_line(1000, 1000, 4095, 0x0002);
+    equals("bias", words[KEXBARDI_BIAS], 65535);
+
+    /* reset 9999: e = 500 moves the bias by no unit */
+    begin_lent("no reset", 1, UNITS(2000), 0, 1000, 1000, 0, 0, 1);
+    words[KEXBARDI_RESET] = 0x9999, words[KEXBARDI_SETPOINT] = 1500;
+    equals("sample", sample(1, 1000), 0);
+    check_record(1, 1, UNITS(2000), UNITS(3000), 1000, 1000, 500, 0, 1);
+}
+
 /* ---- records of garbage */
 
 static const int64_t ranges[KEXBARDI_FIELDS][2] = {{0, 2}, {-((int64_t)1 << 52), (int64_t)1 << 52}, {0, 65535 * (int64_t)262144},
     {0, 65535}, {0, 65535}, {-65535, 65535}, {0, 1}, {0, 1}};
 
-/* One number of loop 3's record takes a value: a sample and the record are refused where it is out of range. */
-static void number_at(int field, int64_t value) {
-    const int64_t at = 2 * KEXBARDI_FIELDS + field, good = records[at];
-    const int bad = value < ranges[field][0] || value > ranges[field][1];
-    struct lent kept = lent;
-    records[at] = value;
-    equals("record", record(3), bad ? 5 : 0);
-    equals("sample", sample(3, 1000), bad ? 5 : 0);
-    if (bad) {
-        equals("record of another loop", record(2), 0);
-        words[KEXBARDI_ADDRESS(3, KEXBARDI_GAIN)] = 0xffff;
-        equals("5 before 7", sample(3, 65535), 5);
-        equals("another loop is sampled", sample(2, 1000), 0);
-        equals("the number stays", records[at], value);
-    } else
-        equals("mode afterwards", records[2 * KEXBARDI_FIELDS] <= 2, 1);
-    lent = kept;
-    equals("restored", records[at], good);
+/* One number of a loop's record takes a value out of its range: every call that reads the record is refused, and every
+ * number stays. */
+static void number_refused(unsigned loop) {
+    const struct lent kept = lent;
+    equals("record", record(loop), 5);
+    equals("sample", sample(loop, 1000), 5);
+    words[KEXBARDI_ADDRESS(loop, KEXBARDI_GAIN)] = 0xffff;
+    equals("5 before 7, 8 and 9", sample(loop, 65535), 5);
+    size = 0, file_sample(loop, 1000), file_store(700, 9);
+    equals("run", run(ANSWERS), 0);
+    equals("a sample in a file", answers[0], 5);
+    equals("the reading goes on", answers[1], 0);
+    check("all numbers stay", memcmp(records, kept.records + GUARD, KEXBARDI_NUMBERS * sizeof *records) == 0);
+    equals("a store", store(KEXBARDI_ADDRESS(loop, KEXBARDI_SETPOINT), 7), 0);
 }
 
-static void garbage_numbers(void) {
-    begin("a number out of range");
-    settle(2), settle(3);
-    equals("sample", sample(3, 1000), 0);
-    for (int field = 0; field < KEXBARDI_FIELDS; field++) {
-        const int64_t low = ranges[field][0], high = ranges[field][1];
-        const int64_t far_off = (int64_t)1 << 32, farther = (int64_t)1 << 62;
-        const int64_t values[] = {low, high, low - 1, high + 1, high + 2, -high - 2, high + 256, high + 65536, high + far_off,
-            low - far_off, (int64_t)1 << 53, farther, -farther, INT64_MIN, INT64_MIN + 1, INT64_MAX, INT64_MAX - 1};
-        for (size_t n = 0; n < sizeof values / sizeof *values; n++) number_at(field, values[n]);
+static void number_at(unsigned loop, int field, int64_t value) {
+    const struct lent kept = lent;
+    records[KEXBARDI_FIELDS * (loop - 1) + (unsigned)field] = value;
+    if (value < ranges[field][0] || value > ranges[field][1])
+        number_refused(loop);
+    else {
+        equals("record", record(loop), 0);
+        equals("a number as it stands", fields[field], value);
+        equals("sample", sample(loop, 1000), 0);
+        equals("record afterwards", record(loop), 0);
     }
+    lent = kept;
+}
+
+/* The records of all other loops are garbage, and stay so. */
+static void garbage_numbers(void) {
+    static const unsigned loops[] = {1, 3, 9, 16};
+    for (int k = 0; k < 4; k++) {
+        begin("a number at the ends of its range");
+        settle(loops[k]);
+        memset(records, 0xa5, KEXBARDI_NUMBERS * sizeof *records);
+        memset(records + KEXBARDI_FIELDS * (loops[k] - 1), 0, KEXBARDI_FIELDS * sizeof *records);
+        equals("sample", sample(loops[k], 1000), 0);
+        for (int field = 0; field < KEXBARDI_FIELDS; field++) {
+            const int64_t low = ranges[field][0], high = ranges[field][1], far_off = (int64_t)1 << 32, farther = (int64_t)1 << 62;
+            const int64_t values[] = {low, high, low - 1, high + 1, high + 2, -high - 2, high + 256, high + 65536, high + far_off,
+                low - far_off, (int64_t)1 << 53, farther, -farther, INT64_MIN, INT64_MIN + 1, INT64_MAX, INT64_MAX - 1};
+            for (size_t n = 0; n < sizeof values / sizeof *values; n++) number_at(loops[k], field, values[n]);
+        }
+    }
+}
+
+/* The record of the sampled loop counts, and no other. */
+static void garbage_neighbour(void) {
+    begin("a number out of range in another loop");
+    settle(2), settle(3);
+    records[2 * KEXBARDI_FIELDS + KEXBARDI_FIELD_ERROR] = 65536;
+    equals("loop 3", sample(3, 1000), 5);
+    equals("loop 2", sample(2, 1000), 0);
+    equals("record 2", record(2), 0);
+    size = 0, file_sample(3, 1000), file_sample(2, 1000), file_sample(4, 1000);
+    equals("run", run(ANSWERS), 0);
+    equals("loop 3 in a file", answers[0], 5);
+    equals("loop 2 in a file", answers[1], 0);
+    equals("loop 4 in a file", answers[2], 8);
+    equals("it stays", records[2 * KEXBARDI_FIELDS + KEXBARDI_FIELD_ERROR], 65536);
 }
 
 static void garbage_desks(void) {
@@ -498,6 +856,39 @@ static void garbage_desks(void) {
         for (unsigned loop = 1; loop <= KEXBARDI_LOOPS; loop++) check("words of garbage are refused", sample(loop, 1000) >= 7);
         equals("store", store(2, 9), 0);
         equals("reset", reset(), 0);
+    }
+}
+
+/* ---- loops alike */
+
+/* Nine samples of a loop in every mode and form, with alarms, a store before each; the lines go to `lines`. */
+static void same_calls(unsigned loop, uint16_t lines[9][4]) {
+    static const uint16_t calls[9][3] = {/* offset, value, raw PV */
+        {KEXBARDI_RATE, 0x0050, 1000}, {KEXBARDI_SETPOINT, 1500, 1010}, {KEXBARDI_MODE_1, 0x7000 | 4, 1100},
+        {KEXBARDI_MODE_1, 0x7000 | 32, 1200}, {KEXBARDI_SETPOINT, 900, 1300}, {KEXBARDI_MODE_1, 0x7000 | 1, 3000},
+        {KEXBARDI_OUTPUT, 700, 2900}, {KEXBARDI_MODE_1, 0x7000 | 2 | 8 | 16, 2500}, {KEXBARDI_GAIN, 0x0033, 0}};
+    settle(loop);
+    for (unsigned n = 0; n < 4; n++) store(KEXBARDI_ADDRESS(loop, KEXBARDI_LOW_LOW + n), 800 * (n + 1));
+    store(KEXBARDI_ADDRESS(loop, KEXBARDI_YELLOW), 100), store(KEXBARDI_ADDRESS(loop, KEXBARDI_RED), 300);
+    store(KEXBARDI_ADDRESS(loop, KEXBARDI_HYSTERESIS), 10), store(KEXBARDI_ADDRESS(loop, KEXBARDI_CHANGE), 50);
+    store(KEXBARDI_ADDRESS(loop, KEXBARDI_POINTER), 600), store(600, 1234);
+    for (int n = 0; n < 9; n++) {
+        equals("store", store(KEXBARDI_ADDRESS(loop, calls[n][0]), calls[n][1]), 0);
+        equals("sample", sample(loop, calls[n][2]), 0);
+        memcpy(lines[n], line, 4 * sizeof *line);
+    }
+}
+
+/* Every loop gives the lines, words and record of loop 1, and loop 1 is not touched meanwhile. */
+static void alike(void) {
+    static uint16_t first[9][4], lines[9][4];
+    begin("loops alike");
+    same_calls(1, first);
+    for (unsigned loop = 2; loop <= KEXBARDI_LOOPS; loop++) {
+        same_calls(loop, lines);
+        check("lines", memcmp(lines, first, sizeof first) == 0);
+        check("words", memcmp(words + KEXBARDI_ADDRESS(loop, 0), words, KEXBARDI_LOOP_WORDS * sizeof *words) == 0);
+        check("record", memcmp(records + KEXBARDI_FIELDS * (loop - 1), records, KEXBARDI_FIELDS * sizeof *records) == 0);
     }
 }
 
@@ -526,14 +917,6 @@ static void two_desks(void) {
 }
 
 /* ---- files */
-
-static void byte(unsigned value) { file[size++] = (uint8_t)value; }
-
-static void pair(unsigned value) { byte(value & 255), byte(value >> 8); }
-
-static void file_store(unsigned address, unsigned value) { pair(6), pair(1), pair(address), pair(value); }
-
-static void file_sample(unsigned loop, unsigned raw) { pair(5), pair(2), byte(loop), pair(raw); }
 
 static void file_loop_a(void) {
     for (int n = 0; n < 6; n++) file_store(loop_a_stores[n][0], loop_a_stores[n][1]);
@@ -595,6 +978,9 @@ static void file_refusals(void) {
     file_loop_a(), file_sample(1, 4096);
     pair(6), byte(1);
     check_run("807234600000091");
+    equals("a record of no kind", answers[3], KEXBARDI_KIND);
+    equals("a length that is not the kind's", answers[4], KEXBARDI_LENGTH);
+    equals("a record cut", answers[14], KEXBARDI_CUT);
     check_text("1 refused 8\n2 set 8 10\n3 refused 7\n4 refused 2\n5 refused 3\n6 refused 4\n7 refused 6\n8 set 5 2000\n9 set 25 4095\n"
         "10 set 7 256\n11 set 8 512\n12 set 9 4096\n13 set 0 2\n14 refused 9\n15 refused 1\n15 records, 8 refused\n");
     begin("a record that is none, in a file");
@@ -614,7 +1000,8 @@ struct bytes {
 
 static const struct bytes small_files[] = {
     {"empty", 0, {0}, ""}, {"one byte", 1, {6}, "1"}, {"a length alone", 2, {6, 0}, "1"}, {"a zero length", 2, {0, 0}, "2"},
-    {"short lengths", 8, {0, 0, 1, 0, 255, 0, 0, 0}, "2221"}, {"kind 0", 4, {2, 0, 0, 0}, "2"}, {"kind 3", 4, {2, 0, 3, 0}, "2"},
+    {"short lengths", 8, {0, 0, 1, 0, 255, 0, 0, 0}, "2221"}, {"a kind of one byte", 5, {1, 0, 1, 0, 0}, "22"},
+    {"kind 0", 4, {2, 0, 0, 0}, "2"}, {"kind 3", 4, {2, 0, 3, 0}, "2"},
     {"kind 257", 4, {2, 0, 1, 1}, "2"}, {"a store of length 5", 7, {5, 0, 1, 0, 0, 0, 0}, "3"},
     {"a store of length 7", 9, {7, 0, 1, 0, 0, 0, 0, 0, 0}, "3"}, {"a sample of length 6", 8, {6, 0, 2, 0, 1, 0, 0, 0}, "3"},
     {"a sample of length 2", 4, {2, 0, 2, 0}, "3"}, {"a store cut", 7, {6, 0, 1, 0, 2, 0, 9}, "1"},
@@ -700,15 +1087,25 @@ int main(void) {
     worked_loop();
     worked_cases();
     alarms();
+    limits_out_of_order();
     cascade();
     lengths();
+    order();
     loops();
     stores();
     digits();
     settings_refused();
     raw_above();
+    lent_ends();
+    first_samples();
+    change_alarms();
+    manual();
+    held_at_first();
+    bias_words();
     garbage_numbers();
+    garbage_neighbour();
     garbage_desks();
+    alike();
     two_desks();
     worked_file();
     file_refusals();

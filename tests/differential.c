@@ -77,9 +77,9 @@ static size_t length_of(size_t right) {
 }
 
 static void store(unsigned address, unsigned value) {
-    size_t n = length_of(KEXBARDI_WORDS);
-    uint8_t a = kexbardi_store(ours.words, n, (uint16_t)address, (uint16_t)value);
-    compare("store", a, plain_store(plain.words, n, (uint16_t)address, (uint16_t)value));
+    size_t words = length_of(KEXBARDI_WORDS), records = length_of(KEXBARDI_NUMBERS);
+    uint8_t a = kexbardi_store(ours.words, words, ours.records, records, (uint16_t)address, (uint16_t)value);
+    compare("store", a, plain_store(plain.words, words, plain.records, records, (uint16_t)address, (uint16_t)value));
 }
 
 /* The instructor's hand: a word written without a call. */

@@ -43,8 +43,9 @@ static void fail(long at, const char *what) {
 }
 
 static void store(unsigned address, unsigned value) {
-    uint8_t a = kexbardi_store(ours.words, KEXBARDI_WORDS, (uint16_t)address, (uint16_t)value);
-    if (a != 0 || a != plain_store(plain.words, KEXBARDI_WORDS, (uint16_t)address, (uint16_t)value)) fail(0, "a store is refused");
+    uint8_t a = kexbardi_store(ours.words, KEXBARDI_WORDS, ours.records, KEXBARDI_NUMBERS, (uint16_t)address, (uint16_t)value);
+    uint8_t b = plain_store(plain.words, KEXBARDI_WORDS, plain.records, KEXBARDI_NUMBERS, (uint16_t)address, (uint16_t)value);
+    if (a != 0 || b != 0) fail(0, "a store is refused");
 }
 
 /* mode 1: a request, alarms watched, and what this loop is for its whole life */

@@ -1,6 +1,5 @@
 -- The status word, bit by bit, as document 01's paragraph on word 6 has it. Sums stand in the place of differences, so nothing wraps.
-use Prim.Native.Nat.{ℕ, _+_, _-_, _*_, _≤_}
-use mathlib.Core.Path.{_≡_}
+use Prim.Native.Nat.{ℕ, _+_, _-_, _*_}
 use mathlib.Core.Bool.{Bool, cond, not, _&&_, _||_}
 use mathlib.Core.List.{List, [], _∷_}
 use lib.Dec.{ltb, eqb}
@@ -68,11 +67,6 @@ statusOf mode bits l output stored seen =
     }
 
 -- ---- the word of the bits
-
--- r is the number n, which is at most b
-pub record Valued (r n b : ℕ) : Type 0 where
-  pub value : r ≡ n
-  pub small : r ≤ b
 
 abbrev pub number : Bool → ℕ
 number b = cond b 1 0

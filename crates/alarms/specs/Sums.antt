@@ -1,5 +1,6 @@
 -- The status word as the code sums it: the values of its bits, group by group.
-use Prim.Native.Nat.{ℕ, _+_}
+use Prim.Native.Nat.{ℕ, _+_, _≤_}
+use mathlib.Core.Path.{_≡_}
 use mathlib.Core.Bool.{Bool, cond}
 use Rattle.table.specs.declared.mode.Mode.{Mode}
 use Rattle.table.specs.declared.mode.Mode.the-variants.{Manual, Automatic, Cascade}
@@ -7,6 +8,11 @@ use Rattle.table.specs.declared.settings.AlarmLimits.{AlarmLimits}
 use Rattle.table.specs.Words.{bit}
 use Rattle.alarms.specs.Status.{highAlarm, lowAlarm}
 pub mod Laws
+
+-- r is the number n, which is at most b
+pub record Valued (r n b : ℕ) : Type 0 where
+  pub value : r ≡ n
+  pub small : r ≤ b
 
 -- the value of a bit that is on
 abbrev pub flagOf : Bool → ℕ → ℕ

@@ -4,7 +4,8 @@ use table::Mode1;
 use table::OutputLimits;
 ghost use mathlib.Core.Path.{_≡_};
 ghost use mathlib.Core.Bool.{cond};
-ghost use Rattle.alarms.specs.Status.{Valued, highAlarm, lowAlarm, apart, unordered, atLimit};
+ghost use Rattle.alarms.specs.Status.{highAlarm, lowAlarm, apart, unordered, atLimit};
+ghost use Rattle.alarms.specs.Sums.{Valued};
 
 // What the hold adds: the hysteresis of an alarm that was on.
 fn margin(was: bool, hysteresis: u16) -> u32

@@ -11,8 +11,8 @@ use table::OutputLimits;
 use table::is_manual;
 ghost use mathlib.Core.Path.{_≡_};
 ghost use mathlib.Core.Bool.{cond};
-ghost use Rattle.alarms.specs.Status.{Valued, apart, wordOf, bitsOf, statusOf};
-ghost use Rattle.alarms.specs.Sums.{flagOf, modeBit, levelBits, deviationBits};
+ghost use Rattle.alarms.specs.Status.{apart, wordOf, bitsOf, statusOf};
+ghost use Rattle.alarms.specs.Sums.{Valued, flagOf, modeBit, levelBits, deviationBits};
 
 // What the status word tells of one sample.
 pub struct Seen {

@@ -6,6 +6,7 @@ use Rattle.carried.specs.declared.record.Carried.{Carried}
 
 pub record Ranged (c : Carried) : Type 0 where
   pub bias : natAbs (c .drive .bias) ≤ 2 ^ 52
+  -- from 0
   pub positive : pos 0 ≤ℤ c .drive .output
   pub output : c .drive .output ≤ℤ pos (65535 * 262144)
   pub error : natAbs (c .past .error) ≤ 65535

@@ -11,7 +11,7 @@ ghost use Prim.Native.Nat.{_+_, _≤_};
 ghost use lib.IntN.{pos};
 ghost use lib.ListN.{length};
 ghost use lib.Seq.{sets};
-ghost use Rattle.carried.specs.Layout.{modeNumber, flag, numbersOf, modeFrom, recordFrom, _to_, outsideRow, outOfRange, slotOf, numbersAt};
+ghost use Rattle.carried.specs.Layout.{modeNumber, flag, numbersOf, modeFrom, recordFrom, fieldCount, _to_, outsideRow, outOfRange, slotOf, numbersAt};
 
 pub const FIELDS: usize = 8; // numbers of a record
 
@@ -154,7 +154,7 @@ pub fn slot_of(k: u8) -> usize
 
 // The numbers of the record that starts at a place.
 pub fn numbers_at(numbers: &[i64], at: usize) -> [i64; FIELDS]
-    requires { ⌜ at + 8 ≤ length (now numbers) ⌝ }
+    requires { ⌜ at + fieldCount ≤ length (now numbers) ⌝ }
     ensures { λ r. ⌜ r ≡ numbersAt (now (numbers .entry)) at ⌝ }
 {
     let mut found = [0; FIELDS];
@@ -169,7 +169,7 @@ pub fn numbers_at(numbers: &[i64], at: usize) -> [i64; FIELDS]
 
 // A record's numbers stored from a place on.
 pub fn put_numbers(numbers: &mut [i64], at: usize, fields: [i64; FIELDS])
-    requires { ⌜ at + 8 ≤ length (now numbers) ⌝ }
+    requires { ⌜ at + fieldCount ≤ length (now numbers) ⌝ }
     ensures { λ _. ⌜ now (numbers .exit) ≡ sets (now (numbers .entry)) at fields ⌝ }
 {
     let mut i = 0;

@@ -13,7 +13,7 @@ use Rattle.refusals.specs.declared.Answer.the-variants.{Accepted, Refused}
 use Rattle.refusals.specs.Refusals.{numberOf}
 use Rattle.refusals.specs.Refusals.Laws.{accepted-only}
 use Rattle.reader.specs.File.{recordsOf}
-use Rattle.carried.specs.Layout.{slotOf, numbersAt, recordFrom, recordAt}
+use Rattle.carried.specs.Layout.{fieldCount, numberCount, slotOf, numbersAt, recordFrom, recordAt}
 use Rattle.plain.specs.Plain.{Plain, begun}
 use Rattle.plain.specs.Plain.Laws.{Tied, start-tied, within-one}
 use Rattle.desk.specs.Desk.{Desk, lent, fittingOf}
@@ -23,18 +23,18 @@ use Rattle.desk.specs.Lists.Laws.{refused-call, unfit, numbers-kept, numbers-be
 use Rattle.desk.proofs.Accuracy as accuracy
 use Rattle.session.specs.Session.{begun as started, runOf, callsOf, leftOf}
 use Rattle.session.specs.Session.Laws.{run-desk}
-use Rattle.kexbardi_files.specs.Files.{Counted}
+use Rattle.kexbardi_files.specs.Files.{Ran}
 use Rattle.claims.specs.Turns.{Made, one, file, Turn, found, numberTo, madeLeft, behind, fedMade}
 use Rattle.claims.proofs.Demand1.{demand-1}
 use Rattle.claims.specs.Demand3.{Direct, Good, All, Demand3}
 
 -- a record that stands whole in the first of two lists is found there
-front : (xs ys : List ℤ) (at : ℕ) → at + 8 ≤ length xs → numbersAt (xs ++ ys) at ≡ numbersAt xs at
-front xs ys at h = rw (drop-append-le at xs ys (omega arith)) (take-append-le 8 (drop at xs) ys (simp length-drop (omega arith)))
+front : (xs ys : List ℤ) (at : ℕ) → at + fieldCount ≤ length xs → numbersAt (xs ++ ys) at ≡ numbersAt xs at
+front xs ys at h = rw (drop-append-le at xs ys (omega arith)) (take-append-le fieldCount (drop at xs) ys (simp length-drop (omega arith)))
 
 module _ (k : ℕ) (above : 1 ≤ k) (below : k ≤ 16) where
   -- the record of loop k, in numbers that have others behind them
-  before : (xs ys : List ℤ) → length xs ≡ 128 → recordAt (xs ++ ys) k ≡ recordAt xs k
+  before : (xs ys : List ℤ) → length xs ≡ numberCount → recordAt (xs ++ ys) k ≡ recordAt xs k
   before xs ys h = ap recordFrom (front xs ys (slotOf k) (omega arith))
 
   -- ---- memory of the right lengths
@@ -66,7 +66,7 @@ module _ (k : ℕ) (above : 1 ≤ k) (below : k ≤ 16) where
   module _ (d : Desk) (q : Plain) (wrong : fittingOf d ≡ false) where
     stopped : (bytes : List ℕ) → numberTo d (file bytes) ≡ 5
     unfolding numberTo
-    stopped bytes = ap (λ (c : Counted). c .number) (demand-1 .memory bytes d 0 0 wrong .0)
+    stopped bytes = ap (λ (c : Ran). c .number) (demand-1 .memory bytes d 0 0 wrong .0)
 
     idle : (m : Made) → Good k q d m × (madeLeft d m ≡ d) × (fedMade k q d m ≡ q)
     unfolding madeLeft fedMade leftOf fed

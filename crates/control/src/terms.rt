@@ -35,7 +35,7 @@ fn term(k: u64, e: i64, d: u64) -> i64
     requires { ⌜ (k ≤ 9999 * 9999) × ((natAbs e ≤ 131070) × ((0 < d) × (d < 2 ^ 62))) ⌝ }
     ensures { λ r. ⌜ r ≡ roundTo 262144 (over (pos k *ℤ e) d) ⌝ }
 {
-    numbers::scaled(k * 262144, e, d)
+    numbers::scaled(k * numbers::UNITS, e, d)
 }
 
 // P. Settings are in hundredths here and below.

@@ -55,7 +55,7 @@ resetLeft d = leftBy (resetAnswer d) resetDesk d
 
 -- ---- store
 
--- offsets 3, 4, 6 and 29 of a loop: the words that only the engine writes
+-- offsets 3, 4, 6 and 29 of a loop: the words that no store reaches
 abbrev pub engineWord : ℕ → Bool
 engineWord address =
     ltb address 512 && any (eqb (address % 32) 3 ∷ eqb (address % 32) 4 ∷ eqb (address % 32) 6 ∷ eqb (address % 32) 29 ∷ [])

@@ -8,9 +8,11 @@ mod sampling;
 mod showing;
 mod storing;
 
+pub use carried::NUMBERS;
 pub use memory::fitting;
 pub use resetting::reset;
 pub use sampling::sample;
 pub use showing::fields;
 pub use showing::line;
 pub use storing::store;
+pub use table::WORDS;

@@ -1,9 +1,9 @@
 // A sample of one loop: refused, or carried out and written back.
 use crate::memory::fitting;
+use crate::memory::loop_answer;
 use carried::Carried;
 use carried::numbers_at;
 use carried::numbers_of;
-use carried::out_of_range;
 use carried::put_numbers;
 use carried::record_of;
 use carried::slot_of;
@@ -11,13 +11,12 @@ use engine::write_words;
 use judging::judge;
 use refusals::Answer;
 use refusals::Refusal;
-use table::LOOPS;
 use table::read_loop;
 ghost use mathlib.Core.Path.{_≡_};
 ghost use Prim.Native.Nat.{_+_, _≤_};
 ghost use lib.ListN.{length};
 ghost use Rattle.table.specs.Words.{baseOf};
-ghost use Rattle.carried.specs.Layout.{slotOf, recordAt};
+ghost use Rattle.carried.specs.Layout.{fieldCount, slotOf, recordAt};
 ghost use Rattle.carried.specs.Ranged.{Ranged};
 ghost use Rattle.desk.specs.Desk.{lent, judgedAnswer, judgedLeft, sampleAnswer, sampleLeft};
 
@@ -29,7 +28,7 @@ fn carry_out(
     number: u8,
     raw: u16,
 ) -> Answer
-    requires { ⌜ (baseOf number + 32 ≤ length (now words)) × (slotOf number + 8 ≤ length (now numbers)) ⌝ }
+    requires { ⌜ (baseOf number + 32 ≤ length (now words)) × (slotOf number + fieldCount ≤ length (now numbers)) ⌝ }
     requires { ⌜ (carried ≡ recordAt (now numbers) number) × Ranged carried ⌝ }
     ensures answer { λ r. ⌜ r ≡ judgedAnswer (lent (now (words .entry)) (now (numbers .entry))) number raw ⌝ }
     ensures left { λ _. ⌜ lent (now (words .exit)) (now (numbers .exit)) ≡ judgedLeft (lent (now (words .entry)) (now (numbers .entry))) number raw ⌝ }
@@ -59,16 +58,12 @@ pub fn sample(words: &mut [u16], numbers: &mut [i64], number: u8, raw: u16) -> A
     if !fitting(words, numbers) {
         return Answer::Refused(Refusal::Memory);
     }
-    if number < 1 {
-        return Answer::Refused(Refusal::Loop);
+    let known = loop_answer(numbers, number);
+    match known {
+        Answer::Refused(why) => Answer::Refused(why),
+        Answer::Accepted => {
+            let carried = record_of(numbers_at(numbers, slot_of(number)));
+            carry_out(words, numbers, carried, number, raw)
+        }
     }
-    if LOOPS < number {
-        return Answer::Refused(Refusal::Loop);
-    }
-    let found = numbers_at(numbers, slot_of(number));
-    if out_of_range(found) {
-        return Answer::Refused(Refusal::Record);
-    }
-    let carried = record_of(found);
-    carry_out(words, numbers, carried, number, raw)
 }

@@ -2,6 +2,11 @@
 use crate::memory::fitting;
 use refusals::Answer;
 use refusals::Refusal;
+use table::BIAS;
+use table::LOOP_WORDS;
+use table::PROFILE_FAULT;
+use table::PV;
+use table::STATUS;
 use table::WORDS;
 ghost use mathlib.Core.Path.{_≡_};
 ghost use Rattle.desk.specs.Desk.{lent, engineWord, storeAnswer, storeLeft};
@@ -10,12 +15,13 @@ const FIRST_FREE: u16 = 512; // words from here on belong to no loop
 
 const LAST_ADDRESS: u16 = WORDS as u16 - 1;
 
-// The words of a loop that only the engine writes: PV, bias, status and ramp/soak errors.
+// The words of a loop that no store reaches: PV, bias and status, which samples write, and word 29.
 fn engine_word(address: u16) -> bool
     ensures { λ r. ⌜ r ≡ engineWord address ⌝ }
 {
+    let offset = address as usize % LOOP_WORDS;
     (address < FIRST_FREE)
-        & ((address % 32 == 3) | (address % 32 == 4) | (address % 32 == 6) | (address % 32 == 29))
+        & ((offset == PV) | (offset == BIAS) | (offset == STATUS) | (offset == PROFILE_FAULT))
 }
 
 // No record is looked at; the numbers are lent whole all the same, as to every call.

@@ -1,4 +1,4 @@
--- What drives the valve: document 01's steps 6 to 9, from where step 4 starts bias and output.
+-- What moves the output: document 01's steps 6 to 9, from where step 4 starts bias and output.
 use Prim.Native.Nat.{ℕ, _*_}
 use mathlib.Core.Bool.{Bool, cond, not, _||_}
 use lib.IntN.{ℤ, pos, _+ℤ_, _-ℤ_}
@@ -25,7 +25,7 @@ heldOf s = clampℕ (s .stored .output) (s .limits .low) (s .limits .high)
 unfoldable pub startOf : Bool → ℕ → Drive → Drive
 startOf entry held drive = cond entry (record { bias = pos (unitsOf held); output = pos (unitsOf held) }) drive
 
--- step 6: at the first accepted sample, and at an entry, both last PVs count as p and the last error as e
+-- step 6: at an entry and at the first accepted sample the terms see no change: the past is the present
 unfoldable pub pastOf : Bool → Past → ℕ → ℤ → Past
 pastOf fresh kept p e = cond fresh (record { last = p; prior = p; error = e }) kept
 

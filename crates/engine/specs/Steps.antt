@@ -1,4 +1,4 @@
--- One accepted sample whole: what it senses, what drives the valve, what it writes.
+-- One accepted sample whole: what it senses, what moves the output, what it writes.
 use Prim.Native.Nat.{ℕ}
 use Rattle.table.specs.declared.reading.Reading.{Reading}
 use Rattle.carried.specs.declared.record.Carried.{Carried}

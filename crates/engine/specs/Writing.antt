@@ -17,7 +17,7 @@ use Rattle.engine.specs.declared.sensing.Sensed.{Sensed}
 use Rattle.engine.specs.declared.writing.Written.{Written}
 pub mod Laws
 
--- step 10: word 5 is the output in the nearest count, halves up; in Manual, word 5 brought to the nearer limit
+-- step 10: in Manual word 5 inside its limits, else the output in counts, rounded halves up
 unfoldable pub outputWord : Bool → ℕ → ℤ → ℕ
 outputWord manual held output = cond manual held (nearestCount (natAbs output))
 

@@ -1,4 +1,4 @@
-// What drives the valve (steps 6 to 9): where bias and output start, what counts as the past, the terms, and
+// What moves the output (steps 6 to 9): where bias and output start, what counts as the past, the terms, and
 // the two forms.
 use crate::sensing::Sensed;
 use carried::Carried;

@@ -1,4 +1,4 @@
-// One accepted sample on plain values: what it senses, what drives the valve, what it writes.
+// One accepted sample on plain values: what it senses, what moves the output, what it writes.
 use crate::driving::driven;
 use crate::driving::held_word;
 use crate::sensing::sensed_by;

@@ -12,7 +12,8 @@ use Rattle.table.specs.declared.reading.Reading.{Reading}
 use Rattle.table.specs.Modes.{isCascade}
 pub mod Laws
 
--- velocity with Bumpless II; mode 1 bit 9 or 11; a mode 2 bit without use; hysteresis outside 1 to 200 where bit 12 or 13 is set
+-- velocity form together with Bumpless II; bits 9 and 11 of mode 1, and the bits of mode 2 that have to be 0; a hysteresis outside 1 to 200 where
+-- bit 12 or 13 is set
 abbrev pub badModes : Mode1 → Bool → ℕ → Bool
 badModes bits unused hysteresis =
     (bits .velocity && bits .bumpless)

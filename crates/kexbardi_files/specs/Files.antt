@@ -12,16 +12,16 @@ use Rattle.session.specs.Printed.{printedWithin}
 
 -- ---- a file carried out: the answer and the two counts
 
-pub record Counted : Type 0 where
+pub record Ran : Type 0 where
   pub number : ℕ
   pub count : ℕ
   pub refused : ℕ
 
-abbrev pub ended : ℕ → ℕ → ℕ → Counted
+abbrev pub ended : ℕ → ℕ → ℕ → Ran
 ended number count refused = record { number = number; count = count; refused = refused }
 
 -- by how the session ended; where it stopped the counts stay
-abbrev pub endedBy : Ended → ℕ → ℕ → Counted
+abbrev pub endedBy : Ended → ℕ → ℕ → Ran
 endedBy (Stopped why) count refused = ended (numberOfRefusal why) count refused
 endedBy (Counts n m) count refused = ended 0 n m
 

@@ -38,8 +38,8 @@ pub extern "C" fn kexbardi_run(
     }
 }
 
-// What the program `drill` prints of a file, from the start of `out`. 5 where `out` is too short: ten
-// bytes for each byte of the file, and 100, are enough.
+// What the program `drill` prints of a file, from the start of `out`. 5 where `out` has less room than
+// ten bytes for each byte of the file, and 100 (nine bytes for a file that is too long).
 #[no_mangle]
 pub extern "C" fn kexbardi_print(file: &[u8], out: &mut [u8], length: &mut usize) -> u8
     ensures { λ r. ⌜ printed r (now (out .exit)) (now (length .exit)) ≡ printLeft (now (file .entry)) (now (out .entry)) (now (length .entry)) ⌝ }

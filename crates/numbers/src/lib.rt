@@ -11,6 +11,7 @@ mod signed;
 pub use limits::clamp;
 pub use limits::clamp_word;
 pub use roots::root;
+pub use rounding::UNITS;
 pub use rounding::half_away;
 pub use rounding::half_up;
 pub use rounding::nearest_count;

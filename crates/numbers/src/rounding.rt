@@ -9,6 +9,9 @@ ghost use lib.IntN.{pos, natAbs, _*ℤ_};
 ghost use lib.Signed.{_≤ℤ_};
 ghost use Rattle.numbers.specs.Rounding.{halfUp, halfAway, unitsOf, nearestCount};
 
+// Units of a count.
+pub const UNITS: u64 = 262144;
+
 // n / d to the nearest, halves up.
 pub fn half_up(n: u64, d: u64) -> u64
     requires { ⌜ (n < 2 ^ 62) × ((0 < d) × (d < 2 ^ 62)) ⌝ }
@@ -37,7 +40,7 @@ pub fn scaled(k: u64, z: i64, d: u64) -> i64
 pub fn units(count: u16) -> i64
     ensures { λ r. ⌜ r ≡ pos (unitsOf count) ⌝ }
 {
-    to_signed((count as u64) * 262144)
+    to_signed((count as u64) * UNITS)
 }
 
 // Units in the nearest count, halves up.
@@ -45,5 +48,5 @@ pub fn nearest_count(x: i64) -> u16
     requires { ⌜ (pos 0 ≤ℤ x) × (x ≤ℤ pos (unitsOf 65535)) ⌝ }
     ensures { λ r. ⌜ r ≡ nearestCount (natAbs x) ⌝ }
 {
-    half_up(to_unsigned(x), 262144) as u16
+    half_up(to_unsigned(x), UNITS) as u16
 }

@@ -13,7 +13,7 @@ inCounts z = over z 262144
 unfoldable pub exactSum : Fraction → Exact → Fraction
 exactSum B t = (t .p -ᶠ t .d) +ᶠ (B +ᶠ t .i)
 
--- the exact output is m brought to the nearer limit
+-- the output is m inside its limits
 unfoldable pub exactOutput : ℕ → ℕ → Fraction → Exact → Fraction
 exactOutput low high B t = clampᶠ (exactSum B t) (whole (pos low)) (whole (pos high))
 

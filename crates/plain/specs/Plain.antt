@@ -1,5 +1,5 @@
 -- The plain loop of demand 3: the exact output, in fractions, beside the engine. It is fed the reading and the raw PV of each accepted sample of
--- its loop; it never looks at the engine's carried numbers.
+-- its loop, and no number that the engine carries.
 use Prim.Native.Nat.{ℕ, zero, suc, _+_}
 use mathlib.Core.Bool.{Bool, true, false, cond, _||_}
 use lib.IntN.{ℤ, pos, _-ℤ_}
@@ -27,7 +27,7 @@ pub record Plain : Type 0 where
 unfoldable pub begun : Carried → Plain
 begun c = record { state = c .state; last = 0; B = whole (pos 0); n = 0; output = whole (pos 0) }
 
--- Manual, freeze and velocity form set n to 0 (`idle`); else an entry sets it to 1, and any other sample raises an n above 0 by 1
+-- Manual, freeze and velocity form (the first argument) end the count; else an entry begins it, and an n that has begun goes up by 1
 unfoldable pub countAfter : Bool → Bool → ℕ → ℕ
 countAfter true entry n = 0
 countAfter false true n = 1
@@ -48,8 +48,8 @@ movedBy (suc n) q r state start last p e =
     let output = exactOutput (s .limits .low) (s .limits .high) start terms in
     record { state = state; last = p; B = exactBias output terms; n = suc n; output = output }
 
--- an accepted sample of its loop: p, s and whole e by steps 1 to 5 from its own state; an entry sets B to word 5 brought to the nearer limit, and
--- the last PV to p
+-- an accepted sample of its loop: PV, setpoint and error as steps 1 to 5 give them from its own state. An entry starts B at word 5 inside its
+-- limits, and the last PV at the present one
 unfoldable pub plainAfter : Plain → Reading → ℕ → Plain
 plainAfter q r raw =
     let s = r .settings in

@@ -29,7 +29,7 @@ printedOf file = cond (ltb 65536 (length file)) tooLong (linesOf (begun resetDes
 abbrev pub withRoom : ℕ → ℕ → List ℕ → List ℕ
 withRoom room need text = cond (ltb room need) [] text
 
--- the room for what is printed of a file: no record prints more than ten bytes for each of its own, and the last line takes at most 60
+-- the room that is asked for: ten bytes for each byte of the file, and 100 for the last line and a record cut after one byte
 abbrev pub roomFor : List ℕ → ℕ
 roomFor file = cond (ltb 65536 (length file)) 9 (10 * length file + 100)
 

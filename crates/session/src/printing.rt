@@ -2,6 +2,8 @@
 use crate::turn::act;
 use crate::turn::refusals_in;
 use crate::turn::shown;
+use desk::NUMBERS;
+use desk::WORDS;
 use lines::put_last;
 use lines::put_line;
 ghost use mathlib.Core.Path.{_≡_};
@@ -16,7 +18,7 @@ ghost use Rattle.session.specs.Printed.{linesOf, tooLong, withRoom, prin
 const LONGEST: usize = 65536; // bytes of a file
 
 // Every record of a file in turn, with its line, and the last line: from the start of `out`. Answers
-// how many bytes these are: at most ten for each byte of the file, and a last line.
+// how many bytes these are: at most ten for each byte of the file, and 100.
 fn transcript(file: &[u8], words: &mut [u16], numbers: &mut [i64], out: &mut [u8]) -> usize
     requires { ⌜ (length (now file) ≤ 65536) × (10 * length (now file) + 100 ≤ length (now out)) ⌝ }
     ensures { λ r. ⌜ Written (now (out .entry)) 0 (linesOf (begun (lent (now (words .entry)) (now (numbers .entry)))) (recordsOf (now (file .entry)))) (now (out .exit)) r ⌝ }
@@ -51,7 +53,7 @@ fn put_too_long(out: &mut [u8]) -> usize
 }
 
 // The whole printed text, from the start of `out`. Answers how many bytes it is; 0, and nothing is
-// written, where `out` is too short: ten bytes for each byte of the input, and 100, are enough.
+// written, where `out` has less room than ten bytes for each byte of the input, and 100.
 pub fn drill(input: &[u8], out: &mut [u8]) -> usize
     ensures printed { λ r. ⌜ take r (now (out .exit)) ≡ printedWithin (length (now (out .entry))) (now (input .entry)) ⌝ }
     ensures room { λ r. ⌜ (r ≤ length (now (out .exit))) × (r ≡ length (take r (now (out .exit)))) ⌝ }
@@ -63,8 +65,8 @@ pub fn drill(input: &[u8], out: &mut [u8]) -> usize
     if out.len() < 10 * input.len() + 100 {
         return 0;
     }
-    let mut words = [0u16; 1024];
-    let mut numbers = [0i64; 128];
+    let mut words = [0u16; WORDS];
+    let mut numbers = [0i64; NUMBERS];
     desk::reset(&mut words, &mut numbers);
     transcript(input, &mut words, &mut numbers, out)
 }

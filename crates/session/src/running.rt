@@ -16,7 +16,7 @@ pub enum Ended {
     Stopped(Refusal),
 }
 
-pub struct Counted {
+pub struct Totals {
     pub count: usize,
     pub refused: usize,
 }
@@ -31,7 +31,7 @@ fn keep(answers: &mut [u8], at: usize, number: u8)
 }
 
 // Every record of a file in turn.
-fn carry_all(file: &[u8], words: &mut [u16], numbers: &mut [i64], answers: &mut [u8]) -> Counted
+fn carry_all(file: &[u8], words: &mut [u16], numbers: &mut [i64], answers: &mut [u8]) -> Totals
     ensures { λ r. ⌜ state (now (words .exit)) (now (numbers .exit)) (r .count) (r .refused) ≡ runOf (begun (lent (now (words .entry)) (now (numbers .entry)))) (recordsOf (now (file .entry))) ⌝ }
     ensures { λ _. ⌜ now (answers .exit) ≡ sets (now (answers .entry)) 0 (answersFor (lent (now (words .entry)) (now (numbers .entry))) (recordsOf (now (file .entry)))) ⌝ }
 {
@@ -47,7 +47,7 @@ fn carry_all(file: &[u8], words: &mut [u16], numbers: &mut [i64], answers: &mut 
         refused += refusals_in(number);
         at = step.next;
     }
-    Counted { count, refused }
+    Totals { count, refused }
 }
 
 // A file of any length. Where the memory does not have its lengths, nothing is read or written. Else

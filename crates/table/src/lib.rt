@@ -19,6 +19,7 @@ pub use offsets::LOOP_WORDS;
 pub use offsets::LOOPS;
 pub use offsets::MODE_1;
 pub use offsets::OUTPUT;
+pub use offsets::PROFILE_FAULT;
 pub use offsets::PV;
 pub use offsets::SETPOINT;
 pub use offsets::STATUS;

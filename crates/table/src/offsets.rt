@@ -50,3 +50,5 @@ pub const OUTPUT_LOW: usize = 24;
 pub const OUTPUT_HIGH: usize = 25;
 
 pub const POINTER: usize = 26;
+
+pub const PROFILE_FAULT: usize = 29; // not in use yet: no store reaches it

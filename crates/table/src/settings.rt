@@ -80,7 +80,7 @@ pub struct OutputLimits {
     pub high: u16, // 25
 }
 
-// The words that a sample may write, as they stood before it.
+// The words that a sample writes, but for the PV, as they stood before it.
 pub struct Stored {
     pub word: u16, // 0, mode 1
     pub setpoint: u16, // 2

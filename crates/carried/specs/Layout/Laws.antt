@@ -143,7 +143,7 @@ pub put-same : (ns l : List ℤ) (at : ℕ) → length l ≡ fieldCount → at +
 put-same ns l at size fits =
     let rest = drop (at + length l) ns in
     let pasted : sets ns at l ≡ take at ns ++ (l ++ rest) = sets-eq l ns at (omega arith) ∙ append-assoc (take at ns) l rest in
-    rw (pasted, drop-at (take at ns) (l ++ rest) at (length-take-le at ns (omega arith)), take-at l rest 8 size)
+    rw (pasted, drop-at (take at ns) (l ++ rest) at (length-take-le at ns (omega arith)), take-at l rest fieldCount size)
 
 -- a number that is not written over
 apart : (vs l : List ℤ) (i j : ℕ) (d : ℤ) → ((k : ℕ) → k < length vs → j ≢ i + k) → getD (sets l i vs) j d ≡ getD l j d
@@ -159,9 +159,9 @@ put-other ns l j k size first second other =
   where
     at : (i : ℕ) → i < length (numbersAt (sets ns (slotOf j) l) (slotOf k)) → getD (numbersAt (sets ns (slotOf j) l) (slotOf k)) i (pos 0) ≡ getD (numbersAt ns (slotOf k)) i (pos 0)
     at i p =
-        let few : i < 8 = omega (arith, length-take 8 (drop (slotOf k) (sets ns (slotOf j) l))) in
-        getD-take 8 (drop (slotOf k) (sets ns (slotOf j) l)) i (pos 0) few
+        let few : i < fieldCount = omega (arith, length-take fieldCount (drop (slotOf k) (sets ns (slotOf j) l))) in
+        getD-take fieldCount (drop (slotOf k) (sets ns (slotOf j) l)) i (pos 0) few
         ∙ getD-drop (slotOf k) (sets ns (slotOf j) l) i (pos 0)
         ∙ apart l ns (slotOf j) (slotOf k + i) (pos 0) (λ n q e. other (omega arith))
         ∙ sym (getD-drop (slotOf k) ns i (pos 0))
-        ∙ sym (getD-take 8 (drop (slotOf k) ns) i (pos 0) few)
+        ∙ sym (getD-take fieldCount (drop (slotOf k) ns) i (pos 0) few)

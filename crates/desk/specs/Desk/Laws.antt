@@ -14,7 +14,7 @@ use Rattle.refusals.specs.declared.Answer.{Answer}
 use Rattle.refusals.specs.declared.Answer.the-variants.{Accepted, Refused}
 use Rattle.refusals.specs.declared.Refusal.the-variants.{Record}
 use Rattle.refusals.specs.Refusals.{_⇒_, firstOf}
-use Rattle.refusals.specs.Refusals.Laws.{accepted-at, accepted-rest}
+use Rattle.refusals.specs.Refusals.Laws.{accepted-at, accepted-rest, orElse, first-append}
 use Rattle.table.specs.Words.{baseOf}
 use Rattle.carried.specs.declared.record.Carried.{Carried}
 use Rattle.carried.specs.Layout.{numberCount, slotOf, outOfRange, numbersOf, recordFrom, numbersAt, recordAt, resetRecord}
@@ -54,6 +54,18 @@ sound d e =
 pub fits : (d : Desk) → firstOf (memoryCases d) ≡ Accepted → fittingOf d ≡ true
 fits d e = not-false _ (accepted-at (memoryCases d) e 0)
 
+-- ---- a loop that there is, with its record in range
+
+pub record Known (ns : List ℤ) (k : ℕ) : Type 0 where
+  pub above : 1 ≤ k
+  pub below : k ≤ 16
+  pub range : outOfRange (numbersAt ns (slotOf k)) ≡ false
+
+pub known : (ns : List ℤ) (k : ℕ) → firstOf (loopCases ns k) ≡ Accepted → Known ns k
+known ns k e =
+    let no = accepted-at (loopCases ns k) e in
+    record { above = ltb-false _ _ (no 0); below = ltb-false _ _ (no 1); range = no 2 }
+
 -- ---- an accepted sample
 
 pub record Sampled (d : Desk) (k raw : ℕ) : Type 0 where
@@ -68,24 +80,25 @@ unfolding sampleAnswer
 sampled d k raw e =
     let p = accepted-rest (memoryCases d) (loopCases (d .numbers) k ++ readingCases (readingAt d k) raw) e in
     let q = accepted-rest (loopCases (d .numbers) k) (readingCases (readingAt d k) raw) (p .1) in
-    let no = accepted-at (loopCases (d .numbers) k) (q .0) in
+    let loop = known (d .numbers) k (q .0) in
     record {
       memory = sound d (fits d (p .0));
-      above = ltb-false _ _ (no 0);
-      below = ltb-false _ _ (no 1);
-      carried = ranged (numbersAt (d .numbers) (slotOf k)) (no 2);
+      above = loop .above;
+      below = loop .below;
+      carried = ranged (numbersAt (d .numbers) (slotOf k)) (loop .range);
       reading = usable (d .words) k (recordAt (d .numbers) k .state .mode) raw (q .1);
     }
 
--- past 5 and 4 the record and the reading decide, and past 5 the reading
+-- past 5 and 4 the record and the reading decide
 pub answer-ranged : (d : Desk) (k raw : ℕ) → fittingOf d ≡ true → 1 ≤ k → k ≤ 16
     → sampleAnswer d k raw ≡ firstOf ((outOfRange (numbersAt (d .numbers) (slotOf k)) ⇒ Record) ∷ readingCases (readingAt d k) raw)
 unfolding sampleAnswer
 answer-ranged d k raw fit above below = rw (fit, le-ltb k 1 above, le-ltb 16 k below)
 
-pub answer-judged : (d : Desk) (k raw : ℕ) → fittingOf d ≡ true → 1 ≤ k → k ≤ 16 → outOfRange (numbersAt (d .numbers) (slotOf k)) ≡ false
-    → sampleAnswer d k raw ≡ judgedAnswer d k raw
-answer-judged d k raw fit above below range = answer-ranged d k raw fit above below ∙ rw range
+-- past 5, the loop and then the reading decide
+pub answer-known : (d : Desk) (k raw : ℕ) → fittingOf d ≡ true → sampleAnswer d k raw ≡ orElse (firstOf (loopCases (d .numbers) k)) (judgedAnswer d k raw)
+unfolding sampleAnswer
+answer-known d k raw fit = rw fit (first-append (loopCases (d .numbers) k) (readingCases (readingAt d k) raw))
 
 -- its own record is the step's, in range again; another loop's stays
 module _ (d : Desk) (k raw : ℕ) (s : Sampled d k raw) where
@@ -110,7 +123,7 @@ module _ (d : Desk) (k raw : ℕ) (s : Sampled d k raw) where
 -- ---- reset
 
 -- the numbers at reset are 0 everywhere
-pub reset-numbers : resetDesk ≡ lent (replicate 1024 0) (replicate 128 (pos 0))
+pub reset-numbers : resetDesk ≡ lent (replicate 1024 0) (replicate numberCount (pos 0))
 unfolding resetDesk numbersOf resetRecord flatten
 reset-numbers = refl
 

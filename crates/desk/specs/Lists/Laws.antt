@@ -14,7 +14,7 @@ use Rattle.refusals.specs.declared.Refusal.the-variants.{Memory}
 use Rattle.refusals.specs.declared.Answer.{Answer}
 use Rattle.refusals.specs.declared.Answer.the-variants.{Accepted, Refused}
 use Rattle.refusals.specs.Refusals.{numberOf}
-use Rattle.carried.specs.Layout.{slotOf, outOfRange, numbersAt, numbersOf}
+use Rattle.carried.specs.Layout.{fieldCount, numberCount, slotOf, outOfRange, numbersAt, numbersOf}
 use Rattle.plain.specs.Plain.{Plain}
 use Rattle.desk.specs.Desk.{Desk, fittingOf, leftBy, resetDesk, resetAnswer, resetLeft, storeAnswer, storeLeft, sampleAnswer, sampleLeft, sampleDone, stepAt}
 use Rattle.desk.specs.Desk.Laws.{sound, fits, reset-numbers, sampled, own-range, other-numbers}
@@ -69,15 +69,15 @@ module _ (k : ℕ) (above : 1 ≤ k) where
   InRange d = outOfRange (numbersAt (d .numbers) (slotOf k)) ≡ false
 
   -- the records at reset are zeros
-  zeros : k ≤ 16 → numbersAt (replicate 128 (pos 0)) (slotOf k) ≡ replicate 8 (pos 0)
+  zeros : k ≤ 16 → numbersAt (replicate numberCount (pos 0)) (slotOf k) ≡ replicate fieldCount (pos 0)
   zeros below =
-      let size : length (numbersAt (replicate 128 (pos 0)) (slotOf k)) ≡ 8 = simp (length-take, length-drop) (omega arith) in
+      let size : length (numbersAt (replicate numberCount (pos 0)) (slotOf k)) ≡ fieldCount = simp (length-take, length-drop) (omega arith) in
       ext-getD (pos 0) _ _ size
-      (λ i p. let few : i < 8 = omega (arith, size) in
-      getD-take 8 (drop (slotOf k) (replicate 128 (pos 0))) i (pos 0) few
-      ∙ getD-drop (slotOf k) (replicate 128 (pos 0)) i (pos 0)
-      ∙ getD-replicate 128 (slotOf k + i) (pos 0) (pos 0) (omega arith)
-      ∙ sym (getD-replicate 8 i (pos 0) (pos 0) few))
+      (λ i p. let few : i < fieldCount = omega (arith, size) in
+      getD-take fieldCount (drop (slotOf k) (replicate numberCount (pos 0))) i (pos 0) few
+      ∙ getD-drop (slotOf k) (replicate numberCount (pos 0)) i (pos 0)
+      ∙ getD-replicate numberCount (slotOf k + i) (pos 0) (pos 0) (omega arith)
+      ∙ sym (getD-replicate fieldCount i (pos 0) (pos 0) few))
 
   reset-range : k ≤ 16 → InRange resetDesk
   unfolding outOfRange

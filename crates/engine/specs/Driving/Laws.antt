@@ -1,4 +1,4 @@
--- The laws of what drives the valve: the terms of an accepted sample fit, the output is within its limits, and bias and output within their ranges.
+-- The laws of what moves the output: the terms of an accepted sample fit, the output is within its limits, and bias and output within their ranges.
 use Prim.Native.Nat.{ℕ, _*_, _^_, _≤_}
 use native.Mathlib.Omega.{arith}
 use mathlib.Core.Bool.{Bool, true, false}

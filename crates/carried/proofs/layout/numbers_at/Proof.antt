@@ -9,14 +9,15 @@ use mir.Syntax.{w64}
 use lib.IntN.{pos}
 use lib.ListN.{length, getD, take, drop, length-set, length-drop}
 use lib.Seq.{take-suc, take-suc-set, take-all, getD-drop}
+use Rattle.carried.specs.Layout.{fieldCount}
 use Rattle.carried.proofs.layout.numbers_at.Statement.{statement}
 use Rattle.carried.proofs.layout.numbers_at.Tie as tie
 
 abbrev Inv-loop : tie.InvT-loop
-Inv-loop numbers at found₀ i₀ found i = (i ≤ 8) × (length found ≡ 8) × (take i found ≡ take i (drop at numbers))
+Inv-loop numbers at found₀ i₀ found i = (i ≤ fieldCount) × (length found ≡ fieldCount) × (take i found ≡ take i (drop at numbers))
 
 abbrev μ-loop : tie.MeasureT-loop
-μ-loop numbers at found₀ i₀ found i = 8 - i
+μ-loop numbers at found₀ i₀ found i = fieldCount - i
 
 loop-holds : tie.Need-loop-holds Inv-loop μ-loop
 loop-holds c = (omega arith, refl, refl)
@@ -55,7 +56,7 @@ loop-again c =
     )
 
 returns : tie.Need-returns Inv-loop μ-loop
-returns c = let l = c .before .loop in let e : l .i ≡ 8 = omega arith in rw (e, take-all 8 (l .found) (omega arith)) at (l .inv .2)
+returns c = let l = c .before .loop in let e : l .i ≡ fieldCount = omega arith in rw (e, take-all fieldCount (l .found) (omega arith)) at (l .inv .2)
 
 pub numbers-at-spec : {M : Type 1} → statement M
 numbers-at-spec =

@@ -10,14 +10,15 @@ use mathlib.Core.Path.{_≡_, refl}
 use native.Mathlib.Omega.{arith}
 use native.Mathlib.Numerals.{add-one}
 use native.Mathlib.Nat.{add-zero, add-suc}
+use Rattle.carried.specs.Layout.{fieldCount}
 use Rattle.carried.proofs.layout.put_numbers.Statement.{statement}
 use Rattle.carried.proofs.layout.put_numbers.Tie as tie
 
 abbrev Inv-loop : tie.InvT-loop
-Inv-loop numbers₀ at fields i₀ numbers i = (i ≤ 8) × (length numbers ≡ length numbers₀) × (sets numbers (at + i) (drop i fields) ≡ sets numbers₀ at fields)
+Inv-loop numbers₀ at fields i₀ numbers i = (i ≤ fieldCount) × (length numbers ≡ length numbers₀) × (sets numbers (at + i) (drop i fields) ≡ sets numbers₀ at fields)
 
 abbrev μ-loop : tie.MeasureT-loop
-μ-loop numbers₀ at fields i₀ numbers i = 8 - i
+μ-loop numbers₀ at fields i₀ numbers i = fieldCount - i
 
 loop-holds : tie.Need-loop-holds Inv-loop μ-loop
 loop-holds c = (omega arith, refl, rw add-zero)

@@ -1,15 +1,11 @@
--- `desk::fields` meets its contract: at each answer, the tests that led there pick the case.
-use borrow.Author.Tests.{eq-eqb, ne-eqb, lt-ltb, le-ltb}
-use mathlib.Core.Path.{sym, ap, _∙_}
-use Prim.Native.Nat.{ℕ}
-use mathlib.Core.Path.{_≡_}
-use mathlib.Core.List.{[], _∷_}
+-- `desk::fields` meets its contract: by the length, and then by the loop's answer.
+use native.Mathlib.Omega.{arith}
+use borrow.Author.Tests.{eq-eqb, ne-eqb}
+use mathlib.Core.Path.{_≡_, sym, _∙_}
 use denote.Ref.{now}
-use Rattle.refusals.specs.declared.Refusal.the-variants.{Record}
-use Rattle.refusals.specs.Refusals.{_⇒_, firstOf}
-use Rattle.carried.specs.Layout.{outOfRange, slotOf, numbersAt}
-use Rattle.desk.specs.Desk.{fieldsAnswer, fieldsLeft}
-use Rattle.desk.specs.Desk.Laws.{copied}
+use Rattle.refusals.specs.Refusals.{firstOf}
+use Rattle.desk.specs.Desk.{loopCases, fieldsAnswer, fieldsLeft}
+use Rattle.desk.specs.Desk.Laws.{copied, known}
 use borrow.Author.Needs.{needs}
 use Rattle.desk.proofs.showing.fields.Statement.{statement}
 use Rattle.desk.proofs.showing.fields.Tie as tie
@@ -18,61 +14,55 @@ returns : tie.Need-returns
 unfolding fieldsAnswer fieldsLeft
 returns c = copied _ _ (simp (ne-eqb _ _ (c .if1 .taken)))
 
-returns-2 : tie.Need-returns-2
-unfolding fieldsAnswer fieldsLeft
-returns-2 c = copied _ _ (simp (eq-eqb _ _ (c .before .if1 .left), lt-ltb _ _ (c .if2 .taken)))
+loop-answer-requires : tie.Need-loop-answer-requires
+loop-answer-requires c κs = search needs
 
-returns-3 : tie.Need-returns-3
-unfolding fieldsAnswer fieldsLeft
-returns-3 c = copied _ _ (simp (eq-eqb _ _ (c .before .before .if1 .left), le-ltb _ _ (c .before .if2 .left), lt-ltb _ _ (c .if3 .taken)))
+-- past the length the loop decides
+answered : (c : tie.After-loop-answer) → let a = c .before .before .args in fieldsAnswer (now (a .numbers)) (a .number) ≡ c .loop-answer .result
+unfolding fieldsAnswer
+answered c = rw (eq-eqb _ _ (c .before .if1 .left)) (sym (c .loop-answer .ensures))
+
+enum-known-known : tie.Need-enum-known-known
+enum-known-known c = search needs
+
+enum-told : tie.Need-enum-told
+enum-told c = search needs
 
 slot-of-requires : tie.Need-slot-of-requires
 slot-of-requires c κs = search needs
 
 numbers-at-requires : tie.Need-numbers-at-requires
-numbers-at-requires c κs = search needs
-
-out-of-range-requires : tie.Need-out-of-range-requires
-out-of-range-requires c κs = search needs
-
--- past 5 and 4, the range decides
-read : (c : tie.After-numbers-at) → let a = c .before .before .before .before .before .args in
-    fieldsAnswer (now (a .numbers)) (a .number) ≡ firstOf ((outOfRange (numbersAt (now (a .numbers)) (slotOf (a .number))) ⇒ Record) ∷ [])
-unfolding fieldsAnswer
-read c =
-    let e = c .before .before in
-    rw (eq-eqb _ _ (e .before .before .if1 .left), le-ltb _ _ (e .before .if2 .left), le-ltb _ _ (e .if3 .left))
-
-tested : (c : tie.After-out-of-range) → let a = c .before .before .before .before .before .before .args in
-    outOfRange (numbersAt (now (a .numbers)) (slotOf (a .number))) ≡ c .out-of-range .result
-tested c =
-    let n = c .before in
-    sym (c .out-of-range .ensures ∙ ap outOfRange (n .numbers-at .ensures ∙ ap (λ (i : ℕ). numbersAt (now (n .before .before .before .before .before .args .numbers)) i) (n .before .slot-of .ensures)))
-
-returns-4 : tie.Need-returns-4
-unfolding fieldsAnswer fieldsLeft
-returns-4 c = copied _ _ (read (c .before .before) ∙ simp (tested (c .before) ∙ c .if4 .taken))
+numbers-at-requires c κs =
+    let t = c .before .before in
+    let l = t .before .before in
+    let a = l .before .before .args in
+    let k = known (now (a .numbers)) (a .number) (sym (l .loop-answer .ensures) ∙ t .enum-told .given .1) in
+    omega (arith, c .slot-of .ensures, l .before .if1 .left, k .above, k .below)
 
 put-numbers-requires : tie.Need-put-numbers-requires
 put-numbers-requires c κs = search needs
 
-returns-5 : tie.Need-returns-5
+returns-2 : tie.Need-returns-2
 unfolding fieldsAnswer fieldsLeft
-returns-5 c =
-    let e = c .before .before in
-    let n = e .before .before in
-    rw (c .put-numbers .ensures, n .numbers-at .ensures, n .before .slot-of .ensures) (copied _ _ (read n ∙ simp (tested (e .before) ∙ e .if4 .left)))
+returns-2 c = copied _ _ (answered (c .before .before .before) ∙ c .before .known .given .1)
+
+returns-3 : tie.Need-returns-3
+unfolding fieldsAnswer fieldsLeft
+returns-3 c =
+    let n = c .before in
+    let t = n .before .before .before in
+    rw (c .put-numbers .ensures, n .numbers-at .ensures, n .before .slot-of .ensures) (copied _ _ (answered (t .before .before) ∙ t .enum-told .given .1))
 
 pub fields-spec : {M : Type 1} → statement M
 fields-spec =
     tie.close
     (tie.spec
     returns
-    returns-2
-    returns-3
+    loop-answer-requires
+    enum-known-known
+    enum-told
     slot-of-requires
     numbers-at-requires
-    out-of-range-requires
-    returns-4
     put-numbers-requires
-    returns-5)
+    returns-2
+    returns-3)
