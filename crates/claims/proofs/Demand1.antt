@@ -3,27 +3,30 @@ use Prim.Native.Nat.{ℕ, suc, zero, _+_, _*_, _≤_, _<_}
 use native.Mathlib.Omega.{arith}
 use mathlib.Core.Path.{_≡_, refl, sym, ap, _∙_, subst}
 use mathlib.Core.Bool.{Bool, true, false, cond}
-use mathlib.Core.List.{List, [], _∷_, _++_}
+use mathlib.Core.List.{List, [], _∷_, _++_, append-assoc}
 use lib.Dec.{ltb, eqb}
-use lib.IntN.{ℤ}
-use lib.ListN.{length, getD, length-append}
+use lib.IntN.{ℤ, pos}
+use lib.ListN.{length, getD, set, replicate, length-append}
 use lib.Seq.{getD-append-seam}
 use borrow.Author.Tests.{eqb-true, ne-eqb, le-ltb, ltb-false}
 use Rattle.refusals.specs.declared.Answer.{Answer}
 use Rattle.refusals.specs.declared.Answer.the-variants.{Accepted, Refused}
 use Rattle.refusals.specs.Refusals.{numberOf}
 use Rattle.refusals.specs.Refusals.Laws.{in-table}
+use Rattle.refusals.specs.declared.Refusal.the-variants.{Cut}
 use Rattle.reader.specs.declared.Record.{Record}
-use Rattle.reader.specs.File.{recordsOf}
-use Rattle.reader.specs.File.Laws.{covered, spans-length, cut-last}
-use Rattle.carried.specs.Layout.{slotOf, numbersAt}
-use Rattle.desk.specs.Desk.{Desk, fittingOf, resetDesk, sampleAnswer, copiedBy, fieldsAnswer, fieldsLeft}
+use Rattle.reader.specs.declared.Record.the-variants.{Refused as Unread}
+use Rattle.reader.specs.File.{wordAt, isCut, recordAt, recordsOf}
+use Rattle.reader.specs.File.Laws.{covered, spans-length, cut-last, whole-not-cut, records-step, records-end}
+use Rattle.carried.specs.Layout.{numberCount, slotOf, numbersAt}
+use Rattle.desk.specs.Desk.{Desk, lent, fittingOf, resetDesk, resetAnswer, resetLeft, engineWord, storeAnswer, storeLeft, sampleAnswer, copiedBy, fieldsAnswer, fieldsLeft}
 use Rattle.desk.specs.Lists.{reset, store, sample, answerTo, deskAfter}
-use Rattle.desk.specs.Lists.Laws.{refused-call}
-use Rattle.lines.specs.Lines.{lastText}
-use Rattle.session.specs.Session.{answerFor, numberFor, leftFor, State, begun, after, runOf, answersFor, endedOf, leftOf, answersOf}
-use Rattle.session.specs.Session.Laws.{refusalsIn, run-counts, answers-length, refused-leaves}
-use Rattle.session.specs.Printed.{linesOf, tooLong, printedOf, printedWithin}
+use Rattle.desk.specs.Desk.Laws.{reset-sound, reset-numbers, reset-fits}
+use Rattle.desk.specs.Lists.Laws.{refused-call, unfit}
+use Rattle.lines.specs.Lines.{lineText, lastText}
+use Rattle.session.specs.Session.{answerFor, numberFor, leftFor, shownFor, State, begun, after, runOf, answersFor, refusalsIn, endedOf, leftOf, answersOf}
+use Rattle.session.specs.Session.Laws.{run-counts, answers-length, refused-leaves}
+use Rattle.session.specs.Printed.{linesOf, bodyOf, tooLong, printedOf, printedWithin}
 use Rattle.kexbardi.specs.Interface.{lineLeft}
 use Rattle.kexbardi_files.specs.Files.{printed, printedBy, printLeft}
 use Rattle.claims.specs.Demand1.{Demand1}
@@ -102,12 +105,57 @@ print-left file out size h = go (printedWithin (length out) file) h
     go [] p = refl
     go (x ∷ text) p = absurd (omega (arith, rw (ne-eqb (length (x ∷ text)) 0 (λ e. omega arith)) at p))
 
+-- ---- the record at a position
+
+at-position : (file : List ℕ) (at : ℕ) → let r = recordAt file at in
+    (isCut file at ≡ true → (r .item ≡ Unread Cut) × (r .next ≡ length file))
+    × (isCut file at ≡ false → (r .item ≡ Unread Cut → ⊥) × (r .next ≡ at + 2 + wordAt file at))
+unfolding recordAt
+at-position file at =
+    (λ e. rw e (refl, refl), λ e. rw e (λ z. omega (arith, whole-not-cut file (at + 2) (wordAt file at) z), refl))
+
+-- ---- what is printed
+
+last-line : (t : State) (xs : List Record) → linesOf t xs ≡ bodyOf t xs ++ lastText (runOf t xs .count) (runOf t xs .refused)
+unfolding linesOf bodyOf runOf
+last-line t [] = refl
+last-line t (x ∷ xs) =
+    let rest = after t x in
+    let line = lineText (t .count + 1) x (numberFor (t .desk) x) (shownFor (leftFor (t .desk) x .words) x) in
+    rw (last-line rest xs) (sym (append-assoc line (bodyOf rest xs) (lastText (runOf rest xs .count) (runOf rest xs .refused))))
+
+printed-lines : (file : List ℕ) → length file ≤ 65536
+    → printedOf file ≡ bodyOf (begun resetDesk) (recordsOf file) ++ lastText (length (recordsOf file)) (refusalsIn (answersOf file resetDesk))
+unfolding printedOf answersOf
+printed-lines file h =
+    let c = run-counts (begun resetDesk) (recordsOf file) in
+    let n : runOf (begun resetDesk) (recordsOf file) .count ≡ length (recordsOf file) = omega (arith, c) in
+    let m : runOf (begun resetDesk) (recordsOf file) .refused ≡ refusalsIn (answersFor resetDesk (recordsOf file)) = omega (arith, c) in
+    rw (le-ltb 65536 (length file) h, reset-fits) (last-line (begun resetDesk) (recordsOf file) ∙ rw (n, m))
+
+-- ---- calls that are carried out
+
+stored : (d : Desk) (address value : ℕ) → fittingOf d ≡ true → address ≤ 1023 → engineWord address ≡ false
+    → (numberOf (storeAnswer d address) ≡ 0) × (storeLeft d address value ≡ lent (set (d .words) address value) (d .numbers))
+unfolding storeLeft storeAnswer
+stored d address value fit low free =
+    let a : storeAnswer d address ≡ Accepted = rw (fit, le-ltb 1023 address low, free) in
+    (ap numberOf a, rw a)
+
+cleared : (d : Desk) → fittingOf d ≡ true
+    → (numberOf (resetAnswer d) ≡ 0) × (resetLeft d ≡ lent (replicate 1024 0) (replicate numberCount (pos 0)))
+unfolding resetAnswer
+cleared d fit = (rw fit, reset-sound d fit ∙ reset-numbers)
+
 -- ---- all of it
 
 pub demand-1 : Demand1
 unfolding answersOf endedOf leftOf answerTo deskAfter
 demand-1 = record {
   read = λ file. (covered file, spans-length file);
+  position = at-position;
+  next = records-step;
+  end = records-end;
   cut = cut-last;
   counted = λ file d count refused fit.
       let c = run-counts (begun d) (recordsOf file) in
@@ -116,6 +164,10 @@ demand-1 = record {
   each = λ file d fit before x after e. (rw (fit, e) (answer-at (begun d) before x after), refused-leaves (runOf (begun d) before .desk) x);
   behind = λ file d fit. rw fit;
   memory = λ file d count refused unfit. rw unfit (refl, refl, refl);
+  lines = printed-lines;
+  answers = λ d call. (small (answerTo d call), λ e. ap numberOf (unfit d e call));
+  stores = stored;
+  resets = cleared;
   reset = λ d h. refused-call d reset h;
   store = λ d address value h. refused-call d (store address value) h;
   sample = λ d k raw line h. (refused-call d (sample k raw) h, sample-left d k raw line h);

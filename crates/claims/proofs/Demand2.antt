@@ -1,38 +1,67 @@
 -- Demand 2, proved.
 use Prim.Native.Nat.{ℕ, _+_, _≤_}
 use mathlib.Core.Path.{_≡_, refl, sym, ap, _∙_}
-use mathlib.Core.List.{List, _∷_}
+use mathlib.Core.List.{List, [], _∷_, _++_}
+use mathlib.Core.Bool.{Bool, true, false}
 use lib.IntN.{ℤ}
 use lib.ListN.{length, getD}
 use lib.Seq.{length-sets}
+use borrow.Author.Tests.{eq-eqb}
 use Rattle.refusals.specs.declared.Answer.{Answer}
 use Rattle.refusals.specs.declared.Answer.the-variants.{Accepted, Refused}
 use Rattle.refusals.specs.declared.Refusal.the-variants.{Record}
 use Rattle.refusals.specs.Refusals.{numberOf, _⇒_, firstOf}
-use Rattle.refusals.specs.Refusals.Laws.{accepted-only}
+use Rattle.refusals.specs.Refusals.Laws.{accepted-only, accepted-rest}
 use Rattle.table.specs.declared.reading.Reading.{Reading}
 use Rattle.table.specs.Words.{baseOf, blockAt}
 use Rattle.table.specs.Reading.{readingOf}
 use Rattle.table.specs.Reading.Laws.{numbered, reading-local}
 use Rattle.carried.specs.declared.record.Carried.{Carried}
 use Rattle.carried.specs.Layout.{slotOf, outOfRange, recordFrom, numbersOf, numbersAt, recordAt}
-use Rattle.judging.specs.Judging.{readingCases}
+use Rattle.judging.specs.Judging.{readingCases, Passed}
+use Rattle.judging.specs.Judging.Laws.{passed, passing}
 use Rattle.engine.specs.declared.stepping.Stepped.{Stepped}
 use Rattle.engine.specs.Sensing.{setpointOf, targetOf, sensedOf}
 use Rattle.engine.specs.Driving.{drivenOf}
 use Rattle.engine.specs.Writing.{writtenTo, statusWord, writtenOf}
 use Rattle.engine.specs.Writing.Laws.{written-length, written-other, written-block}
 use Rattle.engine.specs.Steps.{stepOf}
-use Rattle.desk.specs.Desk.{Desk, leftBy, readingAt, stepAt, sampleDone, sampleAnswer, sampleLeft}
-use Rattle.desk.specs.Desk.Laws.{sampled, own-numbers, other-numbers, answer-ranged}
-use Rattle.desk.specs.Lists.Laws.{by-answer, range-behind}
-use Rattle.claims.specs.Demand2.{Other, Agree, Demand2}
+use Rattle.reader.specs.File.{recordsOf}
+use Rattle.desk.specs.Desk.{Desk, fittingOf, memoryCases, loopCases, leftBy, readingAt, stepAt, sampleDone, sampleAnswer, sampleLeft, lineOf}
+use Rattle.desk.specs.Desk.Laws.{fits, known, sampled, own-numbers, other-numbers, answer-ranged}
+use Rattle.desk.specs.Lists.Laws.{by-answer, range-kept, range-behind}
+use Rattle.session.specs.Session.{begun as started, callsOf, leftOf}
+use Rattle.session.specs.Session.Laws.{run-desk}
+use Rattle.kexbardi.specs.Interface.{lineLeft}
+use Rattle.claims.specs.Turns.{Made, one, file, Turn, found, madeLeft, behind, behindAll}
+use Rattle.claims.specs.Demand2.{Acceptable, Other, Agree, InRange, Demand2}
+use Rattle.claims.proofs.Turns.{unfit-behind, record-found, record-behind}
+
+-- ---- when it is accepted
+
+acceptable : (d : Desk) (k raw : ℕ) → Acceptable d k raw → numberOf (sampleAnswer d k raw) ≡ 0
+acceptable d k raw a =
+    let e : sampleAnswer d k raw ≡ Accepted = answer-ranged d k raw (a .memory) (a .loop .0) (a .loop .1) ∙ rw (a .carried) (passing (readingAt d k) raw (a .reading)) in
+    ap numberOf e
+
+only-then : (d : Desk) (k raw : ℕ) → numberOf (sampleAnswer d k raw) ≡ 0 → Acceptable d k raw
+unfolding sampleAnswer
+only-then d k raw z =
+    let e = accepted-only (sampleAnswer d k raw) z in
+    let p = accepted-rest (memoryCases d) (loopCases (d .numbers) k ++ readingCases (readingAt d k) raw) e in
+    let q = accepted-rest (loopCases (d .numbers) k) (readingCases (readingAt d k) raw) (p .1) in
+    let loop = known (d .numbers) k (q .0) in
+    record { memory = fits d (p .0); loop = (loop .above, loop .below); carried = loop .range; reading = passed (readingAt d k) raw (q .1) }
 
 -- ---- what a sample leaves
 
 exactly : (d : Desk) (k raw : ℕ) → numberOf (sampleAnswer d k raw) ≡ 0 → sampleLeft d k raw ≡ sampleDone d k raw
 unfolding sampleLeft
 exactly d k raw e = rw (accepted-only (sampleAnswer d k raw) e)
+
+line-shown : (d : Desk) (k raw : ℕ) (line : List ℕ) → numberOf (sampleAnswer d k raw) ≡ 0 → lineLeft d k raw line ≡ lineOf (sampleLeft d k raw .words) k
+unfolding lineLeft
+line-shown d k raw line e = rw (eq-eqb (numberOf (sampleAnswer d k raw)) 0 e)
 
 words-kept : (d : Desk) (k raw i : ℕ) → Other k i → getD (sampleLeft d k raw .words) i 0 ≡ getD (d .words) i 0
 unfolding sampleLeft sampleDone
@@ -106,12 +135,36 @@ module _ (d d′ : Desk) (k k′ raw : ℕ) (agree : Agree d d′ k k′) where
   unfolding sampleLeft
   alike = let p = left-same (sampleAnswer d k raw) refl in rw (← answer-same) (refl, p .0, p .1)
 
+-- ---- the ranges
+
+module _ (k : ℕ) (above : 1 ≤ k) (below : k ≤ 16) where
+  -- a call on memory of the right lengths
+  made-range : (d : Desk) (m : Made) → fittingOf d ≡ true → InRange k d → InRange k (madeLeft d m)
+  unfolding madeLeft leftOf
+  made-range d (one call) fit h = range-kept k above below d call h
+  made-range d (file bytes) fit h = rw (fit, run-desk (started d) (recordsOf bytes)) (range-behind k above below d (callsOf (recordsOf bytes)) h)
+
+  turn-range : (d : Desk) (t : Turn) → InRange k d → InRange k (behind d t)
+  turn-range d t h = go (fittingOf (found d t)) refl
+    where
+      go : (b : Bool) → fittingOf (found d t) ≡ b → InRange k (behind d t)
+      go true fit = rw (record-behind d t fit k above below) (made-range (found d t) (t .made) fit (rw (record-found d t fit k above below) at h))
+      go false wrong = rw (unfit-behind d t wrong) h
+
+  all-ranges : (d : Desk) (ts : List Turn) → InRange k d → InRange k (behindAll d ts)
+  unfolding behindAll
+  all-ranges d [] h = h
+  all-ranges d (t ∷ ts) h = all-ranges (behind d t) ts (turn-range d t h)
+
 pub demand-2 : Demand2
 demand-2 = record {
+  accepted = acceptable;
+  only = only-then;
   exact = exactly;
+  line = line-shown;
   other-words = words-kept;
   other-records = records-kept;
   lengths = lengths-kept;
   local = alike;
-  ranges = λ k above below d calls h. range-behind k above below d calls h;
+  ranges = λ d ts k above below h. all-ranges k above below d ts h;
 }

@@ -1,26 +1,37 @@
--- Demand 1. Any bytes handed in as a drill file are read to their end. Each record is carried out or refused with a number of the table; a refused
--- record leaves all words and all numbers as they were, and the reading goes on behind it; only a cut record ends the file. A direct call that is
--- refused leaves all memory that was lent to it.
+-- Demand 1. A drill file is any list of bytes. All of it is read: a record that the file cuts off is the last one, and behind every other record the
+-- next one is read, whether that record was carried out or refused. A refusal has a number of the table and changes no word and no number, in a
+-- file and in a direct call; a refused direct call leaves everything that was lent to it.
 use Prim.Native.Nat.{ℕ, _+_, _≤_, _<_}
 use mathlib.Core.Path.{_≡_}
 use mathlib.Core.Bool.{true, false}
 use mathlib.Core.List.{List, [], _∷_, _++_, flatten}
-use lib.IntN.{ℤ}
-use lib.ListN.{length, getD}
+use lib.IntN.{ℤ, pos}
+use lib.ListN.{length, getD, set, replicate}
 use Rattle.refusals.specs.declared.Refusal.the-variants.{Cut}
 use Rattle.refusals.specs.Refusals.{numberOf}
 use Rattle.reader.specs.declared.Record.{Record}
 use Rattle.reader.specs.declared.Record.the-variants.{Refused}
-use Rattle.reader.specs.File.{recordsOf, spansOf}
-use Rattle.desk.specs.Desk.{Desk, fittingOf, resetAnswer, resetLeft, storeAnswer, storeLeft, sampleAnswer, sampleLeft, fieldsAnswer, fieldsLeft}
-use Rattle.session.specs.Session.{numberFor, leftFor, begun, runOf, endedOf, leftOf, answersOf}
-use Rattle.session.specs.Session.Laws.{refusalsIn}
+use Rattle.reader.specs.File.{wordAt, isCut, recordAt, recordsFrom, recordsOf, spansOf}
+use Rattle.carried.specs.Layout.{numberCount}
+use Rattle.desk.specs.Desk.{Desk, lent, fittingOf, resetDesk, resetAnswer, resetLeft, engineWord, storeAnswer, storeLeft, sampleAnswer, sampleLeft, fieldsAnswer, fieldsLeft}
+use Rattle.desk.specs.Lists.{Call, answerTo}
+use Rattle.lines.specs.Lines.{lastText}
+use Rattle.session.specs.Session.{numberFor, leftFor, begun, runOf, refusalsIn, endedOf, leftOf, answersOf}
+use Rattle.session.specs.Printed.{bodyOf, printedOf}
 use Rattle.kexbardi.specs.Interface.{lineLeft}
 use Rattle.kexbardi_files.specs.Files.{ended, endedBy, printed, printLeft}
 
 pub record Demand1 : Type 0 where
+  -- ---- the file
+
   -- every byte belongs to one record: the records' bytes, joined in order, are the file
   pub read : (file : List ℕ) → (flatten (spansOf file) ≡ file) × (length (spansOf file) ≡ length (recordsOf file))
+  -- a cut record ends the file; any other is followed by what stands behind its length and as many bytes as that says
+  pub position : (file : List ℕ) (at : ℕ) → let r = recordAt file at in
+      (isCut file at ≡ true → (r .item ≡ Refused Cut) × (r .next ≡ length file))
+      × (isCut file at ≡ false → (r .item ≡ Refused Cut → ⊥) × (r .next ≡ at + 2 + wordAt file at))
+  pub next : (file : List ℕ) (at : ℕ) → at < length file → recordsFrom file at ≡ recordAt file at .item ∷ recordsFrom file (recordAt file at .next)
+  pub end : (file : List ℕ) (at : ℕ) → length file ≤ at → recordsFrom file at ≡ []
   -- a cut record is the last one
   pub cut : (file : List ℕ) (before after : List Record) → recordsOf file ≡ before ++ (Refused Cut ∷ after) → after ≡ []
   -- on memory of the right lengths the answer is 0, there is an answer for each record, and `refused` counts those that are not 0
@@ -38,7 +49,19 @@ pub record Demand1 : Type 0 where
   -- on memory of wrong lengths a run is a single 5: nothing is read, and words, numbers, counts and answers stay
   pub memory : (file : List ℕ) (d : Desk) (count refused : ℕ) → fittingOf d ≡ false
       → (endedBy (endedOf file d) count refused ≡ ended 5 count refused) × (leftOf file d ≡ d) × (answersOf file d ≡ [])
-  -- a direct call that is refused leaves all that was lent to it
+  -- what is printed of a file: a line for each record, and a last line that counts the records and those that were refused
+  pub lines : (file : List ℕ) → length file ≤ 65536
+      → printedOf file ≡ bodyOf (begun resetDesk) (recordsOf file) ++ lastText (length (recordsOf file)) (refusalsIn (answersOf file resetDesk))
+  -- ---- direct calls
+
+  -- every answer is 0 or a number of the table, and 5 on memory of wrong lengths
+  pub answers : (d : Desk) (call : Call) → (numberOf (answerTo d call) ≤ 9) × (fittingOf d ≡ false → numberOf (answerTo d call) ≡ 5)
+  -- a store of an address that may be stored is carried out, and changes that word; a reset leaves zeros
+  pub stores : (d : Desk) (address value : ℕ) → fittingOf d ≡ true → address ≤ 1023 → engineWord address ≡ false
+      → (numberOf (storeAnswer d address) ≡ 0) × (storeLeft d address value ≡ lent (set (d .words) address value) (d .numbers))
+  pub resets : (d : Desk) → fittingOf d ≡ true
+      → (numberOf (resetAnswer d) ≡ 0) × (resetLeft d ≡ lent (replicate 1024 0) (replicate numberCount (pos 0)))
+  -- one that is refused leaves all that was lent to it
   pub reset : (d : Desk) → 0 < numberOf (resetAnswer d) → resetLeft d ≡ d
   pub store : (d : Desk) (address value : ℕ) → 0 < numberOf (storeAnswer d address) → storeLeft d address value ≡ d
   pub sample : (d : Desk) (k raw : ℕ) (line : List ℕ) → 0 < numberOf (sampleAnswer d k raw)

@@ -1,18 +1,26 @@
--- Demand 2. An accepted sample leaves every word and every number as the steps define it, and changes that loop's words and record and nothing
--- else. Its answer depends on its loop's 32 words, its record, the raw PV and, in Cascade, the word pointed to, and on nothing else: loop 9 set up
--- like loop 1 answers alike. No list of calls takes a record in range out of its ranges.
+-- Demand 2. A sample is accepted exactly where no refusal of the table holds. Then every word and every number is as the steps define it: the loop's
+-- six words and its record change, and nothing else. What comes of a sample is a matter of the loop's 32 words, its record, the raw PV and, in
+-- Cascade, the word pointed to: loop 9 set up like loop 1 answers alike. And a record in range never leaves its ranges, whatever is called.
 use Prim.Native.Nat.{ℕ, _+_, _≤_}
 use mathlib.Core.Path.{_≡_}
-use mathlib.Core.Bool.{true}
+use mathlib.Core.Bool.{true, false}
 use mathlib.Core.List.{List}
 use lib.ListN.{length, getD}
 use Rattle.refusals.specs.Refusals.{numberOf}
 use Rattle.table.specs.Words.{baseOf, blockAt}
 use Rattle.table.specs.Modes.{isCascade}
-use Rattle.carried.specs.Layout.{slotOf, numbersAt}
-use Rattle.desk.specs.Desk.{Desk, fittingOf, readingAt, sampleAnswer, sampleLeft, sampleDone}
-use Rattle.desk.specs.Lists.{Call, deskBehind}
-use Rattle.desk.specs.Lists.Laws.{InRange}
+use Rattle.carried.specs.Layout.{slotOf, outOfRange, numbersAt}
+use Rattle.judging.specs.Judging.{Passed}
+use Rattle.desk.specs.Desk.{Desk, fittingOf, readingAt, sampleAnswer, sampleLeft, sampleDone, lineOf}
+use Rattle.kexbardi.specs.Interface.{lineLeft}
+use Rattle.claims.specs.Turns.{Turn, behindAll}
+
+-- no refusal holds: the memory has its lengths, there is such a loop, its record is in range, and what is read passes 7, 8 and 9
+pub record Acceptable (d : Desk) (k raw : ℕ) : Type 0 where
+  pub memory : fittingOf d ≡ true
+  pub loop : (1 ≤ k) × (k ≤ 16)
+  pub carried : outOfRange (numbersAt (d .numbers) (slotOf k)) ≡ false
+  pub reading : Passed (readingAt d k) raw
 
 -- the address i is none of the six words that a sample of loop k writes: 0, 2, 3, 4, 5 and 6
 pub record Other (k i : ℕ) : Type 0 where
@@ -34,9 +42,17 @@ pub record Agree (d d′ : Desk) (k k′ : ℕ) : Type 0 where
   pub pointed : isCascade (readingAt d k .mode) ≡ true
       → getD (d .words) (readingAt d k .settings .pointer) 0 ≡ getD (d′ .words) (readingAt d k .settings .pointer) 0
 
+-- the record of loop k is in range
+abbrev pub InRange : ℕ → Desk → Type 0
+InRange k d = outOfRange (numbersAt (d .numbers) (slotOf k)) ≡ false
+
 pub record Demand2 : Type 0 where
-  -- the steps' definition, word for word and number for number
+  -- accepted exactly where no refusal holds
+  pub accepted : (d : Desk) (k raw : ℕ) → Acceptable d k raw → numberOf (sampleAnswer d k raw) ≡ 0
+  pub only : (d : Desk) (k raw : ℕ) → numberOf (sampleAnswer d k raw) ≡ 0 → Acceptable d k raw
+  -- the steps' definition, word for word and number for number; the line shows the words after it
   pub exact : (d : Desk) (k raw : ℕ) → numberOf (sampleAnswer d k raw) ≡ 0 → sampleLeft d k raw ≡ sampleDone d k raw
+  pub line : (d : Desk) (k raw : ℕ) (line : List ℕ) → numberOf (sampleAnswer d k raw) ≡ 0 → lineLeft d k raw line ≡ lineOf (sampleLeft d k raw .words) k
   -- no other word, no other loop's record, and no length
   pub other-words : (d : Desk) (k raw i : ℕ) → Other k i → getD (sampleLeft d k raw .words) i 0 ≡ getD (d .words) i 0
   pub other-records : (d : Desk) (k raw j : ℕ) → 1 ≤ j → (j ≡ k → ⊥)
@@ -49,4 +65,4 @@ pub record Demand2 : Type 0 where
       × (blockAt (sampleLeft d k raw .words) (baseOf k) ≡ blockAt (sampleLeft d′ k′ raw .words) (baseOf k′))
       × (numbersAt (sampleLeft d k raw .numbers) (slotOf k) ≡ numbersAt (sampleLeft d′ k′ raw .numbers) (slotOf k′))
   -- the ranges are never left
-  pub ranges : (k : ℕ) (above : 1 ≤ k) → k ≤ 16 → (d : Desk) (calls : List Call) → InRange k above d → InRange k above (deskBehind d calls)
+  pub ranges : (d : Desk) (ts : List Turn) (k : ℕ) → 1 ≤ k → k ≤ 16 → InRange k d → InRange k (behindAll d ts)

@@ -1,7 +1,7 @@
--- Demand 3. For every list of turns, from any words and any numbers: each accepted sample of each loop leaves its output word inside the limits that
--- it read; and on the loop's n-th accepted sample since it last entered automatic working within the list, in position form, with neither Manual nor
--- freeze since, within half a count plus (n + 1)/262,144 of the exact output. n and B are those of the plain loop, which starts at the list's begin
--- and at every reset, and runs on behind a file.
+-- Demand 3. Over any list of turns, beginning with any words and any numbers, two things hold of every sample that is answered 0. Its output word is
+-- inside the limits that the sample read. And where its loop has counted n samples since an entry, in position form, never in Manual nor with
+-- freeze, the word is as near to the exact output as half a count and (n + 1) units. The exact output, n and B are the plain loop's, which begins
+-- with the list and with every reset, and goes on through files.
 use Prim.Native.Nat.{ℕ, _≤_}
 use mathlib.Core.Path.{_≡_}
 use mathlib.Core.List.{List, [], _∷_, _++_}

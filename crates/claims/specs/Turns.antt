@@ -1,7 +1,8 @@
--- What a C program can do to a desk, turn by turn: write anything into the words, and then make a call, perhaps with memory of the wrong length.
+-- A C program's turns on a desk: it writes anything into the words, and then makes a call, perhaps with memory of the wrong length. It leaves the
+-- numbers to the calls.
 use Prim.Native.Nat.{ℕ}
 use mathlib.Core.Bool.{cond}
-use mathlib.Core.List.{List, _++_}
+use mathlib.Core.List.{List, [], _∷_, _++_}
 use lib.ListN.{take, drop}
 use Rattle.refusals.specs.Refusals.{numberOf}
 use Rattle.reader.specs.File.{recordsOf}
@@ -39,7 +40,12 @@ madeLeft d (file bytes) = leftOf bytes d
 abbrev pub behind : Desk → Turn → Desk
 behind d t = let e = madeLeft (found d t) (t .made) in lent (e .words) (e .numbers ++ drop (t .lending) (d .numbers))
 
--- the plain loop of loop k after it; a file counts as its records, where its memory has its lengths
+-- the desk after a list of turns
+unfoldable pub behindAll : Desk → List Turn → Desk
+behindAll d [] = d
+behindAll d (t ∷ ts) = behindAll (behind d t) ts
+
+-- the plain loop of loop k after a call; a file counts as its records, where its memory has its lengths
 unfoldable pub fedMade : ℕ → Plain → Desk → Made → Plain
 fedMade k q d (one call) = fed k q d call
 fedMade k q d (file bytes) = cond (fittingOf d) (plainBehind k q d (callsOf (recordsOf bytes))) q

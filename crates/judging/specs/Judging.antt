@@ -1,6 +1,7 @@
 -- Refusals 7, 8 and 9 of a sample, by what it read. The settings of 8 stand in four groups.
 use Prim.Native.Nat.{ℕ}
-use mathlib.Core.Bool.{Bool, not, _&&_, _||_}
+use mathlib.Core.Path.{_≡_}
+use mathlib.Core.Bool.{Bool, false, not, _&&_, _||_}
 use mathlib.Core.List.{List, [], _∷_}
 use lib.Dec.{ltb, eqb}
 use Rattle.refusals.specs.declared.Refusal.the-variants.{Digit, Setting, Above}
@@ -46,3 +47,12 @@ readingCases r raw =
     ∷ (badSetpoint (isCascade (r .mode)) scale (s .stored .setpoint) (s .pointer) (r .remote) ⇒ Setting)
     ∷ (ltb scale raw ⇒ Above)
     ∷ []
+
+-- none of them holds
+pub record Passed (r : Reading) (raw : ℕ) : Type 0 where
+  pub digit : r .settings .baddigit ≡ false
+  pub modes : badModes (r .settings .mode1) (r .settings .mode2 .unused) (r .settings .alarms .hysteresis) ≡ false
+  pub times : badTimes (r .settings .tuning) ≡ false
+  pub limits : badLimits (r .settings .limits) (r .settings .mode2 .output .scale) ≡ false
+  pub setpoint : badSetpoint (isCascade (r .mode)) (r .settings .mode2 .input .scale) (r .settings .stored .setpoint) (r .settings .pointer) (r .remote) ≡ false
+  pub above : ltb (r .settings .mode2 .input .scale) raw ≡ false

@@ -8,7 +8,7 @@ use carried::FIELDS;
 use refusals::number_of;
 ghost use mathlib.Core.Path.{_≡_};
 ghost use Rattle.refusals.specs.Refusals.{numberOf};
-ghost use Rattle.desk.specs.Desk.{lent, resetAnswer, resetLeft, storeAnswer, storeLeft, sampleAnswer, sampleLeft, fieldsAnswer, fieldsLeft};
+ghost use Rattle.desk.specs.Desk.{lent, resetAnswer, resetLeft, storeAnswer, storeLeft, sampleAnswer, sampleLeft, lineOf, fieldsAnswer, fieldsLeft};
 ghost use Rattle.kexbardi.specs.Interface.{lineBy, lineLeft};
 
 // The version of the interface and of the layout: major, minor and patch as MMmmpp.
@@ -45,11 +45,11 @@ pub extern "C" fn kexbardi_store(
 }
 
 // The line of a loop, where the call was accepted.
-fn show(number: u8, line: &mut [u16; 4], shown: [u16; 4])
-    ensures { λ _. ⌜ now (line .exit) ≡ lineBy number (now (line .entry)) shown ⌝ }
+fn show(answer: u8, line: &mut [u16; 4], words: &[u16], number: u8)
+    ensures { λ _. ⌜ now (line .exit) ≡ lineBy answer (now (line .entry)) (lineOf (now (words .entry)) number) ⌝ }
 {
-    if number == 0 {
-        *line = shown;
+    if answer == 0 {
+        *line = desk::line(words, number);
     }
 }
 
@@ -68,7 +68,7 @@ pub extern "C" fn kexbardi_sample(
     ensures line { λ _. ⌜ now (line .exit) ≡ lineLeft (lent (now (words .entry)) (now (records .entry))) number raw (now (line .entry)) ⌝ }
 {
     let answer = number_of(desk::sample(words, records, number, raw));
-    show(answer, line, desk::line(words, number));
+    show(answer, line, words, number);
     answer
 }
 

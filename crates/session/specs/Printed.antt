@@ -17,6 +17,12 @@ linesOf t [] = lastText (t .count) (t .refused)
 linesOf t (x ∷ xs) =
     lineText (t .count + 1) x (numberFor (t .desk) x) (shownFor (leftFor (t .desk) x .words) x) ++ linesOf (after t x) xs
 
+-- the lines of the records alone
+unfoldable pub bodyOf : State → List Record → List ℕ
+bodyOf t [] = []
+bodyOf t (x ∷ xs) =
+    lineText (t .count + 1) x (numberFor (t .desk) x) (shownFor (leftFor (t .desk) x .words) x) ++ bodyOf (after t x) xs
+
 -- a longer file prints this alone
 abbrev pub tooLong : List ℕ
 tooLong = bytes "too long\n"

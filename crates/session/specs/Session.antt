@@ -81,6 +81,11 @@ unfoldable pub answersFor : Desk → List Record → List ℕ
 answersFor d [] = []
 answersFor d (x ∷ xs) = numberFor d x ∷ answersFor (leftFor d x) xs
 
+-- how many of some answers are refusals
+unfoldable pub refusalsIn : List ℕ → ℕ
+refusalsIn [] = 0
+refusalsIn (number ∷ rest) = countOf number + refusalsIn rest
+
 -- the records of a file as the desk's calls: those that the reader refuses are none
 unfoldable pub callsOf : List Record → List Call
 callsOf [] = []
@@ -88,7 +93,7 @@ callsOf (x ∷ xs) = byCall (λ call. call ∷ callsOf xs) (λ why. callsOf xs) 
 
 -- ---- a file
 
--- wrong memory ends the call with a single 5, nothing read and nothing written; else the counts, the desk after the records, and the answers
+-- where the memory does not have its lengths: stopped, and all stays. Else the counts, the desk after the records, and the answers
 unfoldable pub endedOf : List ℕ → Desk → Ended
 endedOf file d = let t = runOf (begun d) (recordsOf file) in cond (fittingOf d) (Counts (t .count) (t .refused)) (Stopped Memory)
 

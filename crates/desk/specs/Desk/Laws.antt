@@ -127,6 +127,11 @@ pub reset-numbers : resetDesk ≡ lent (replicate 1024 0) (replicate numberCount
 unfolding resetDesk numbersOf resetRecord flatten
 reset-numbers = refl
 
+-- and that many
+pub reset-fits : fittingOf resetDesk ≡ true
+unfolding fittingOf
+reset-fits = rw reset-numbers
+
 -- a reset of memory that has its lengths leaves that
 pub reset-sound : (d : Desk) → fittingOf d ≡ true → resetLeft d ≡ resetDesk
 unfolding resetLeft resetAnswer

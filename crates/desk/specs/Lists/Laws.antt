@@ -65,7 +65,7 @@ numbers-behind d (call ∷ calls) = numbers-behind (deskAfter d call) calls ∙ 
 
 -- a record in range stays in range
 module _ (k : ℕ) (above : 1 ≤ k) where
-  abbrev pub InRange : Desk → Type 0
+  abbrev InRange : Desk → Type 0
   InRange d = outOfRange (numbersAt (d .numbers) (slotOf k)) ≡ false
 
   -- the records at reset are zeros

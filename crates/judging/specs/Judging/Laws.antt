@@ -12,21 +12,16 @@ use Rattle.table.specs.declared.settings.Tuning.{Tuning}
 use Rattle.table.specs.declared.settings.OutputLimits.{OutputLimits}
 use Rattle.table.specs.declared.reading.Reading.{Reading}
 use Rattle.table.specs.Words.Laws.{or-false}
-use Rattle.table.specs.Modes.{isCascade}
-use Rattle.judging.specs.Judging.{badModes, badTimes, badLimits, badSetpoint, readingCases}
-
-pub record Passed (r : Reading) (raw : ℕ) : Type 0 where
-  pub digit : r .settings .baddigit ≡ false
-  pub modes : badModes (r .settings .mode1) (r .settings .mode2 .unused) (r .settings .alarms .hysteresis) ≡ false
-  pub times : badTimes (r .settings .tuning) ≡ false
-  pub limits : badLimits (r .settings .limits) (r .settings .mode2 .output .scale) ≡ false
-  pub setpoint : badSetpoint (isCascade (r .mode)) (r .settings .mode2 .input .scale) (r .settings .stored .setpoint) (r .settings .pointer) (r .remote) ≡ false
-  pub above : ltb (r .settings .mode2 .input .scale) raw ≡ false
+use Rattle.judging.specs.Judging.{badTimes, badLimits, badSetpoint, readingCases, Passed}
 
 pub passed : (r : Reading) (raw : ℕ) → firstOf (readingCases r raw) ≡ Accepted → Passed r raw
 passed r raw e =
     let no = accepted-at (readingCases r raw) e in
     record { digit = no 0; modes = no 1; times = no 2; limits = no 3; setpoint = no 4; above = no 5 }
+
+-- and the reverse
+pub passing : (r : Reading) (raw : ℕ) → Passed r raw → firstOf (readingCases r raw) ≡ Accepted
+passing r raw p = rw (p .digit, p .modes, p .times, p .limits, p .setpoint, p .above)
 
 -- ---- and what a group that has passed says
 

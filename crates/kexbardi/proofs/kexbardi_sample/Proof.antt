@@ -13,9 +13,6 @@ sample-requires c κs = search needs
 number-of-requires : tie.Need-number-of-requires
 number-of-requires c κs = search needs
 
-line-requires : tie.Need-line-requires
-line-requires c κs = search needs
-
 show-requires : tie.Need-show-requires
 show-requires c κs = search needs
 
@@ -28,12 +25,11 @@ same-length-2 c = search needs
 returns : tie.Need-returns
 unfolding lineLeft
 returns c =
-    let l = c .before in
-    let n = l .before .before .before in
+    let n = c .before .before .before in
     let s = n .before .before .before .before in
     let k = s .before .before .before .before .args .number in
     let number = n .number-of .ensures ∙ ap numberOf (s .sample .ensures .0) in
-    let shown = l .line .ensures ∙ ap (λ (d : Desk). lineOf (d .words) k) (s .sample .ensures .1) in
+    let shown = ap (λ (d : Desk). lineOf (d .words) k) (s .sample .ensures .1) in
     (number, (s .sample .ensures .1, rw (number, shown) at (c .show .ensures)))
 
 pub kexbardi-sample-spec : {M : Type 1} → statement M
@@ -42,7 +38,6 @@ kexbardi-sample-spec =
     (tie.spec
     sample-requires
     number-of-requires
-    line-requires
     show-requires
     same-length
     same-length-2

@@ -1,13 +1,17 @@
 -- `kexbardi::show` meets its contract, by the number.
 use borrow.Author.Tests.{eq-eqb, ne-eqb}
+use borrow.Author.Needs.{needs}
 use Rattle.kexbardi.proofs.show.Statement.{statement}
 use Rattle.kexbardi.proofs.show.Tie as tie
 
+line-requires : tie.Need-line-requires
+line-requires c κs = search needs
+
 returns : tie.Need-returns
-returns c = simp (eq-eqb _ _ (c .if1 .taken))
+returns c = simp (eq-eqb _ _ (c .before .if1 .taken), c .line .ensures)
 
 returns-2 : tie.Need-returns-2
 returns-2 c = simp (ne-eqb _ _ (c .if1 .left))
 
 pub show-spec : {M : Type 1} → statement M
-show-spec = tie.close (tie.spec returns returns-2)
+show-spec = tie.close (tie.spec line-requires returns returns-2)

@@ -127,14 +127,14 @@ pub covered : (s : List ℕ) → flatten (spansOf s) ≡ s
 covered s = covered-from s 0
 
 -- a record that is no cut one; a test between two such
-abbrev NotCut : Record → Type 0
+abbrev pub NotCut : Record → Type 0
 NotCut item = item ≡ Refused Cut → _≡_ {A = ℕ} 0 1
 
 pick : {x y : Record} (b : Bool) → NotCut x → NotCut y → NotCut (cond b x y)
 pick true p q = p
 pick false p q = q
 
-whole-not-cut : (s : List ℕ) (at n : ℕ) → NotCut (wholeAt s at n)
+pub whole-not-cut : (s : List ℕ) (at n : ℕ) → NotCut (wholeAt s at n)
 whole-not-cut s at n =
     pick (noKind s at n) (λ e. cc)
     (pick (eqb (wordAt s at) 1) (pick (eqb n 6) (λ e. cc) (λ e. cc)) (pick (eqb n 5) (λ e. cc) (λ e. cc)))

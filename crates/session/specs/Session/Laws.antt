@@ -17,7 +17,7 @@ use Rattle.reader.specs.declared.Record.the-variants.{Store, Sample, Refused}
 use Rattle.desk.specs.Desk.{Desk}
 use Rattle.desk.specs.Lists.Laws.{refused-call}
 use Rattle.desk.specs.Lists.{Call, store, sample, answerTo, deskAfter, deskBehind}
-use Rattle.session.specs.Session.{answerFor, numberFor, leftFor, countOf, State, begun, after, runOf, answersFor, callsOf}
+use Rattle.session.specs.Session.{answerFor, numberFor, leftFor, countOf, State, begun, after, runOf, answersFor, refusalsIn, callsOf}
 
 -- ---- answers and counts
 
@@ -28,11 +28,6 @@ count-small number = go (eqb number 0)
     go : (b : Bool) → cond b 0 1 ≤ 1
     go true = omega arith
     go false = omega arith
-
--- how many of some answers are refusals
-unfoldable pub refusalsIn : List ℕ → ℕ
-refusalsIn [] = 0
-refusalsIn (number ∷ rest) = countOf number + refusalsIn rest
 
 -- there is an answer for each record, and the counts of a run are those of the records and of the refusals among the answers
 pub run-counts : (t : State) (xs : List Record)
