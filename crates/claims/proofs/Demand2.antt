@@ -28,7 +28,7 @@ use Rattle.engine.specs.Writing.Laws.{written-length, written-other, written-bl
 use Rattle.engine.specs.Steps.{stepOf}
 use Rattle.reader.specs.File.{recordsOf}
 use Rattle.desk.specs.Desk.{Desk, fittingOf, memoryCases, loopCases, leftBy, readingAt, stepAt, sampleDone, sampleAnswer, sampleLeft, lineOf}
-use Rattle.desk.specs.Desk.Laws.{fits, known, sampled, own-numbers, other-numbers, answer-ranged}
+use Rattle.desk.specs.Desk.Laws.{fits, known-loop, sampled, own-numbers, other-numbers, answer-ranged}
 use Rattle.desk.specs.Lists.Laws.{by-answer, range-kept, range-behind}
 use Rattle.session.specs.Session.{begun as started, callsOf, leftOf}
 use Rattle.session.specs.Session.Laws.{run-desk}
@@ -50,7 +50,7 @@ only-then d k raw z =
     let e = accepted-only (sampleAnswer d k raw) z in
     let p = accepted-rest (memoryCases d) (loopCases (d .numbers) k ++ readingCases (readingAt d k) raw) e in
     let q = accepted-rest (loopCases (d .numbers) k) (readingCases (readingAt d k) raw) (p .1) in
-    let loop = known (d .numbers) k (q .0) in
+    let loop = known-loop (d .numbers) k (q .0) in
     record { memory = fits d (p .0); loop = (loop .above, loop .below); carried = loop .range; reading = passed (readingAt d k) raw (q .1) }
 
 -- ---- what a sample leaves

@@ -22,7 +22,7 @@ use Rattle.engine.specs.Writing.{outputWord, biasWord, statusWord, writtenOf, n
 use Rattle.engine.specs.Steps.{stepOf}
 use Rattle.plain.specs.Exact.{exactSum, exactOutput, exactBias}
 use Rattle.plain.specs.Plain.{Plain, begun, countAfter, movedBy, plainAfter}
-use Rattle.desk.specs.Desk.{Desk, lent, fittingOf, resetDesk, resetAnswer, resetLeft, storeAnswer, storeLeft, sampleDone, sampleAnswer, sampleLeft}
+use Rattle.desk.specs.Desk.{Desk, lent, fittingOf, noLoop, resetDesk, resetAnswer, resetLeft, storeAnswer, storeLeft, sampleDone, sampleAnswer, sampleLeft}
 use Rattle.desk.specs.Lists.{Call, reset, store, sample, answerTo, deskAfter, fed}
 
 -- what is written before a call, the call, and what is expected after it: the answer's number, loop 9's output word, and its n
@@ -76,5 +76,5 @@ mixed =
     ∷ []
 
 pub computed : rows resetDesk (begun (recordAt (resetDesk .numbers) 9)) mixed ≡ map expected mixed
-unfolding clampBy halfUp halfAway rootWithin rootOf over _+ᶠ_ negᶠ ltᶠ roundTo bcd badDigit modeAfter mode2Of badDigits tuningOf settingsOf remoteOf readingOf squaredOver errorOf exactP exactI exactD exactTerms termsOf outsideOf positionOf velocityOf apart levelsOf statusOf resetRecord pvOf setpointOf entering heldOf startOf targetOf errorIn sensedOf pastOf positionInputs velocityInputs termsIn movedPosition movedVelocity movedOf drivenOf outputWord biasWord statusWord writtenOf nextOf stepOf writtenTo exactSum exactOutput exactBias begun countAfter movedBy plainAfter outOfRange numbersOf recordFrom flatten fittingOf resetDesk resetAnswer resetLeft storeAnswer storeLeft sampleDone sampleAnswer sampleLeft answerTo deskAfter fed expected rows set-up step writing mixed
+unfolding clampBy halfUp halfAway rootWithin rootOf over _+ᶠ_ negᶠ ltᶠ roundTo bcd badDigit modeAfter mode2Of badDigits tuningOf settingsOf remoteOf readingOf squaredOver errorOf exactP exactI exactD exactTerms termsOf outsideOf positionOf velocityOf apart levelsOf statusOf resetRecord pvOf setpointOf entering heldOf startOf targetOf errorIn sensedOf pastOf positionInputs velocityInputs termsIn movedPosition movedVelocity movedOf drivenOf outputWord biasWord statusWord writtenOf nextOf stepOf writtenTo exactSum exactOutput exactBias begun countAfter movedBy plainAfter outOfRange numbersOf recordFrom flatten fittingOf noLoop resetDesk resetAnswer resetLeft storeAnswer storeLeft sampleDone sampleAnswer sampleLeft answerTo deskAfter fed expected rows set-up step writing mixed
 computed = refl

@@ -1,6 +1,6 @@
 -- A desk, and each call on it: its refusals in order, its answer, and what it leaves. A refused call leaves the desk as it was.
 use Prim.Native.Nat.{ℕ, _+_, _%_}
-use mathlib.Core.Bool.{Bool, not, _&&_}
+use mathlib.Core.Bool.{Bool, not, _&&_, _||_}
 use mathlib.Core.List.{List, [], _∷_, _++_, flatten}
 use lib.Dec.{ltb, eqb}
 use lib.IntN.{ℤ}
@@ -72,9 +72,13 @@ storeLeft d address value = leftBy (storeAnswer d address) (lent (set (d .words)
 
 -- ---- sample
 
+-- there is no loop k
+unfoldable pub noLoop : ℕ → Bool
+noLoop k = ltb k 1 || ltb 16 k
+
 -- 4; 5: a number of the loop's record is out of range
 abbrev pub loopCases : List ℤ → ℕ → List Case
-loopCases ns k = (ltb k 1 ⇒ Loop) ∷ (ltb 16 k ⇒ Loop) ∷ (outOfRange (numbersAt ns (slotOf k)) ⇒ Record) ∷ []
+loopCases ns k = (noLoop k ⇒ Loop) ∷ (outOfRange (numbersAt ns (slotOf k)) ⇒ Record) ∷ []
 
 -- what the sample of loop k reads, its mode so far being that of its record
 abbrev pub readingAt : Desk → ℕ → Reading

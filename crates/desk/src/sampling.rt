@@ -1,9 +1,10 @@
 // A sample of one loop: refused, or carried out and written back.
 use crate::memory::fitting;
-use crate::memory::loop_answer;
+use crate::memory::no_loop;
 use carried::Carried;
 use carried::numbers_at;
 use carried::numbers_of;
+use carried::out_of_range;
 use carried::put_numbers;
 use carried::record_of;
 use carried::slot_of;
@@ -58,12 +59,13 @@ pub fn sample(words: &mut [u16], numbers: &mut [i64], number: u8, raw: u16) -> A
     if !fitting(words, numbers) {
         return Answer::Refused(Refusal::Memory);
     }
-    let known = loop_answer(numbers, number);
-    match known {
-        Answer::Refused(why) => Answer::Refused(why),
-        Answer::Accepted => {
-            let carried = record_of(numbers_at(numbers, slot_of(number)));
-            carry_out(words, numbers, carried, number, raw)
-        }
+    if no_loop(number) {
+        return Answer::Refused(Refusal::Loop);
     }
+    let found = numbers_at(numbers, slot_of(number));
+    if out_of_range(found) {
+        return Answer::Refused(Refusal::Record);
+    }
+    let carried = record_of(found);
+    carry_out(words, numbers, carried, number, raw)
 }

@@ -1,8 +1,9 @@
 // What is shown of a desk: a loop's line, and the numbers of its record.
-use crate::memory::loop_answer;
+use crate::memory::no_loop;
 use carried::FIELDS;
 use carried::NUMBERS;
 use carried::numbers_at;
+use carried::out_of_range;
 use carried::put_numbers;
 use carried::slot_of;
 use refusals::Answer;
@@ -37,12 +38,13 @@ pub fn fields(numbers: &[i64], number: u8, copied: &mut [i64; FIELDS]) -> Answer
     if numbers.len() != NUMBERS {
         return Answer::Refused(Refusal::Memory);
     }
-    let known = loop_answer(numbers, number);
-    match known {
-        Answer::Refused(why) => Answer::Refused(why),
-        Answer::Accepted => {
-            put_numbers(copied, 0, numbers_at(numbers, slot_of(number)));
-            Answer::Accepted
-        }
+    if no_loop(number) {
+        return Answer::Refused(Refusal::Loop);
     }
+    let found = numbers_at(numbers, slot_of(number));
+    if out_of_range(found) {
+        return Answer::Refused(Refusal::Record);
+    }
+    put_numbers(copied, 0, found);
+    Answer::Accepted
 }

@@ -20,7 +20,7 @@ use Rattle.engine.specs.Sensing.{pvOf, setpointOf, entering, targetOf, errorIn,
 use Rattle.engine.specs.Driving.{heldOf, startOf, pastOf, positionInputs, velocityInputs, termsIn, movedPosition, movedVelocity, movedOf, drivenOf}
 use Rattle.engine.specs.Writing.{outputWord, biasWord, statusWord, writtenOf, nextOf, writtenTo}
 use Rattle.engine.specs.Steps.{stepOf}
-use Rattle.desk.specs.Desk.{fittingOf, resetDesk, resetAnswer, resetLeft, storeAnswer, storeLeft, sampleDone, sampleAnswer, sampleLeft}
+use Rattle.desk.specs.Desk.{fittingOf, noLoop, resetDesk, resetAnswer, resetLeft, storeAnswer, storeLeft, sampleDone, sampleAnswer, sampleLeft}
 use Rattle.desk.specs.Lists.{answerTo, deskAfter}
 use Rattle.lines.specs.Lines.{lineText, lastText}
 use Rattle.session.specs.Printed.{linesOf, printedOf}
@@ -46,5 +46,5 @@ text =
     ++ bytes "10 refused 4\n10 records, 1 refused\n"
 
 pub worked : printedOf file ≡ text
-unfolding clampBy halfUp halfAway rootWithin rootOf over negᶠ roundTo digitsWithin decimalOf recordAt positionsWithin positionsFrom recordsFrom bcd badDigit modeAfter mode2Of badDigits tuningOf settingsOf remoteOf readingOf squaredOver errorOf exactP exactI exactD exactTerms termsOf outsideOf positionOf velocityOf apart levelsOf statusOf resetRecord pvOf setpointOf entering heldOf startOf targetOf errorIn sensedOf pastOf positionInputs velocityInputs termsIn movedPosition movedVelocity movedOf drivenOf outputWord biasWord statusWord writtenOf nextOf stepOf writtenTo outOfRange numbersOf recordFrom flatten fittingOf resetDesk resetAnswer resetLeft storeAnswer storeLeft sampleDone sampleAnswer sampleLeft answerTo deskAfter lineText lastText linesOf printedOf file text
+unfolding clampBy halfUp halfAway rootWithin rootOf over negᶠ roundTo digitsWithin decimalOf recordAt positionsWithin positionsFrom recordsFrom bcd badDigit modeAfter mode2Of badDigits tuningOf settingsOf remoteOf readingOf squaredOver errorOf exactP exactI exactD exactTerms termsOf outsideOf positionOf velocityOf apart levelsOf statusOf resetRecord pvOf setpointOf entering heldOf startOf targetOf errorIn sensedOf pastOf positionInputs velocityInputs termsIn movedPosition movedVelocity movedOf drivenOf outputWord biasWord statusWord writtenOf nextOf stepOf writtenTo outOfRange numbersOf recordFrom flatten fittingOf noLoop resetDesk resetAnswer resetLeft storeAnswer storeLeft sampleDone sampleAnswer sampleLeft answerTo deskAfter lineText lastText linesOf printedOf file text
 worked = refl

@@ -3,7 +3,7 @@ use Prim.Native.Nat.{ℕ, _+_, _≤_}
 use native.Mathlib.Omega.{arith}
 use mathlib.Core.Path.{_≡_, refl, sym, ap, _∙_}
 use mathlib.Core.Bool.{Bool, true, false, _&&_}
-use lib.Dec.{eqb}
+use lib.Dec.{ltb, eqb}
 use mathlib.Core.List.{List, _∷_, _++_, flatten}
 use lib.IntN.{ℤ, pos}
 use lib.ListN.{length, getD, replicate, length-set}
@@ -14,8 +14,9 @@ use Rattle.refusals.specs.declared.Answer.{Answer}
 use Rattle.refusals.specs.declared.Answer.the-variants.{Accepted, Refused}
 use Rattle.refusals.specs.declared.Refusal.the-variants.{Record}
 use Rattle.refusals.specs.Refusals.{_⇒_, firstOf}
-use Rattle.refusals.specs.Refusals.Laws.{accepted-at, accepted-rest, orElse, first-append}
+use Rattle.refusals.specs.Refusals.Laws.{accepted-at, accepted-rest}
 use Rattle.table.specs.Words.{baseOf}
+use Rattle.table.specs.Words.Laws.{or-false}
 use Rattle.carried.specs.declared.record.Carried.{Carried}
 use Rattle.carried.specs.Layout.{numberCount, slotOf, outOfRange, numbersOf, recordFrom, numbersAt, recordAt, resetRecord}
 use Rattle.carried.specs.Layout.Laws.{read-back, numbers-length, put-same, put-other, ranged, in-range}
@@ -23,7 +24,7 @@ use Rattle.carried.specs.Ranged.{Ranged}
 use Rattle.judging.specs.Judging.{readingCases}
 use Rattle.engine.specs.Steps.Laws.{usable, stepped-ranged}
 use Rattle.engine.specs.Premises.{Usable}
-use Rattle.desk.specs.Desk.{Desk, lent, fittingOf, memoryCases, leftBy, resetDesk, resetAnswer, resetLeft, storeCases, storeAnswer, storeLeft, loopCases, readingAt, sampleCases, stepAt, sampleDone, sampleAnswer, sampleLeft, judgedAnswer, copiedBy}
+use Rattle.desk.specs.Desk.{Desk, lent, fittingOf, memoryCases, leftBy, resetDesk, resetAnswer, resetLeft, storeCases, storeAnswer, storeLeft, noLoop, loopCases, readingAt, sampleCases, stepAt, sampleDone, sampleAnswer, sampleLeft, judgedAnswer, copiedBy}
 
 -- ---- any call
 
@@ -61,10 +62,19 @@ pub record Known (ns : List ℤ) (k : ℕ) : Type 0 where
   pub below : k ≤ 16
   pub range : outOfRange (numbersAt ns (slotOf k)) ≡ false
 
-pub known : (ns : List ℤ) (k : ℕ) → firstOf (loopCases ns k) ≡ Accepted → Known ns k
-known ns k e =
-    let no = accepted-at (loopCases ns k) e in
-    record { above = ltb-false _ _ (no 0); below = ltb-false _ _ (no 1); range = no 2 }
+pub loop-there : (k : ℕ) → noLoop k ≡ false → (1 ≤ k) × (k ≤ 16)
+unfolding noLoop
+loop-there k e = let p = or-false (ltb k 1) (ltb 16 k) e in (ltb-false _ _ (p .0), ltb-false _ _ (p .1))
+
+there-loop : (k : ℕ) → 1 ≤ k → k ≤ 16 → noLoop k ≡ false
+unfolding noLoop
+there-loop k above below = rw (le-ltb k 1 above, le-ltb 16 k below)
+
+pub known : (ns : List ℤ) (k : ℕ) → noLoop k ≡ false → outOfRange (numbersAt ns (slotOf k)) ≡ false → Known ns k
+known ns k e f = let p = loop-there k e in record { above = p .0; below = p .1; range = f }
+
+pub known-loop : (ns : List ℤ) (k : ℕ) → firstOf (loopCases ns k) ≡ Accepted → Known ns k
+known-loop ns k e = let no = accepted-at (loopCases ns k) e in known ns k (no 0) (no 1)
 
 -- ---- an accepted sample
 
@@ -80,7 +90,7 @@ unfolding sampleAnswer
 sampled d k raw e =
     let p = accepted-rest (memoryCases d) (loopCases (d .numbers) k ++ readingCases (readingAt d k) raw) e in
     let q = accepted-rest (loopCases (d .numbers) k) (readingCases (readingAt d k) raw) (p .1) in
-    let loop = known (d .numbers) k (q .0) in
+    let loop = known-loop (d .numbers) k (q .0) in
     record {
       memory = sound d (fits d (p .0));
       above = loop .above;
@@ -93,12 +103,13 @@ sampled d k raw e =
 pub answer-ranged : (d : Desk) (k raw : ℕ) → fittingOf d ≡ true → 1 ≤ k → k ≤ 16
     → sampleAnswer d k raw ≡ firstOf ((outOfRange (numbersAt (d .numbers) (slotOf k)) ⇒ Record) ∷ readingCases (readingAt d k) raw)
 unfolding sampleAnswer
-answer-ranged d k raw fit above below = rw (fit, le-ltb k 1 above, le-ltb 16 k below)
+answer-ranged d k raw fit above below = rw (fit, there-loop k above below)
 
--- past 5, the loop and then the reading decide
-pub answer-known : (d : Desk) (k raw : ℕ) → fittingOf d ≡ true → sampleAnswer d k raw ≡ orElse (firstOf (loopCases (d .numbers) k)) (judgedAnswer d k raw)
+-- and past these the reading
+pub answer-judged : (d : Desk) (k raw : ℕ) → fittingOf d ≡ true → noLoop k ≡ false → outOfRange (numbersAt (d .numbers) (slotOf k)) ≡ false
+    → sampleAnswer d k raw ≡ judgedAnswer d k raw
 unfolding sampleAnswer
-answer-known d k raw fit = rw fit (first-append (loopCases (d .numbers) k) (readingCases (readingAt d k) raw))
+answer-judged d k raw fit loop range = rw (fit, loop, range)
 
 -- its own record is the step's, in range again; another loop's stays
 module _ (d : Desk) (k raw : ℕ) (s : Sampled d k raw) where

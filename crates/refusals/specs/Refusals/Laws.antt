@@ -59,17 +59,3 @@ accepted-rest (x ∷ l) m e =
     let p = passed (x .holds) (x .why) (firstOf (l ++ m)) e in
     let q = accepted-rest l m (p .1) in
     (rw (p .0) (q .0), q .1)
-
--- a list that goes on: the answer of the first part, where it refuses, else that of the second
-abbrev pub orElse : Answer → Answer → Answer
-orElse Accepted rest = rest
-orElse (Refused why) rest = Refused why
-
-pub first-append : (l m : List Case) → firstOf (l ++ m) ≡ orElse (firstOf l) (firstOf m)
-first-append [] m = refl
-first-append (x ∷ l) m = go (x .holds) (first-append l m)
-  where
-    go : (b : Bool) → firstOf (l ++ m) ≡ orElse (firstOf l) (firstOf m)
-        → cond b (Refused (x .why)) (firstOf (l ++ m)) ≡ orElse (cond b (Refused (x .why)) (firstOf l)) (firstOf m)
-    go true h = refl
-    go false h = h

@@ -1,20 +1,14 @@
--- `desk::sample` meets its contract: by the lengths, then by the loop's answer; past them the reading decides.
+-- `desk::sample` meets its contract: at each answer, the tests that led there pick the case; past them the reading decides.
 use native.Mathlib.Omega.{arith}
+use Prim.Native.Nat.{ℕ}
 use borrow.Author.Tests.{not-true, not-false}
 use mathlib.Core.Path.{_≡_, sym, ap, _∙_}
-use mathlib.Core.Bool.{true}
-use Prim.Native.Nat.{ℕ}
-use mathlib.Core.List.{List}
-use lib.IntN.{ℤ}
+use mathlib.Core.Bool.{true, false}
 use denote.Ref.{now}
-use Rattle.refusals.specs.declared.Answer.{Answer}
-use Rattle.refusals.specs.declared.Answer.the-variants.{Accepted, Refused}
-use Rattle.refusals.specs.Refusals.{firstOf}
-use Rattle.refusals.specs.Refusals.Laws.{orElse}
-use Rattle.carried.specs.Layout.{slotOf, numbersAt, recordFrom}
+use Rattle.carried.specs.Layout.{outOfRange, slotOf, numbersAt, recordFrom}
 use Rattle.carried.specs.Layout.Laws.{ranged}
-use Rattle.desk.specs.Desk.{lent, fittingOf, loopCases, sampleAnswer, sampleLeft, judgedAnswer}
-use Rattle.desk.specs.Desk.Laws.{promised, sound, Known, known, answer-known}
+use Rattle.desk.specs.Desk.{lent, fittingOf, noLoop, sampleAnswer, sampleLeft}
+use Rattle.desk.specs.Desk.Laws.{promised, sound, loop-there, answer-judged}
 use borrow.Author.Needs.{needs}
 use Rattle.desk.proofs.sampling.sample.Statement.{statement}
 use Rattle.desk.proofs.sampling.sample.Tie as tie
@@ -36,60 +30,8 @@ returns c = promised _ _ (simp (sym (c .before .fitting .ensures) ∙ not-true _
 fit : (c : tie.Else1) → let a = c .before .before .before .before .before .args in fittingOf (lent (now (a .words)) (now (a .numbers))) ≡ true
 fit c = sym (c .before .fitting .ensures) ∙ not-false _ (c .if1 .left)
 
--- the loop's answer x, and then the reading's
-answered : (c : tie.After-loop-answer) (x : Answer) → c .loop-answer .result ≡ x
-    → let a = c .before .before .before .before .before .before .before .args in
-    let d = lent (now (a .words)) (now (a .numbers)) in
-    sampleAnswer d (a .number) (a .raw) ≡ orElse x (judgedAnswer d (a .number) (a .raw))
-answered c x e =
-    let a = c .before .before .before .before .before .before .before .args in
-    let d = lent (now (a .words)) (now (a .numbers)) in
-    answer-known d (a .number) (a .raw) (fit (c .before .before))
-    ∙ ap (λ (y : Answer). orElse y (judgedAnswer d (a .number) (a .raw))) (sym (c .loop-answer .ensures) ∙ e)
-
-found-known : (c : tie.After-enum-told) → let a = c .before .before .before .before .before .before .before .before .before .args in
-    Known (now (a .numbers)) (a .number)
-found-known c = known _ _ (sym (c .before .before .loop-answer .ensures) ∙ c .enum-told .given .1)
-
--- the numbers that are read are the loop's
-found : (c : tie.After-numbers-at) → let a = c .before .before .before .before .before .before .before .before .before .before .before .before .args in
-    c .numbers-at .result ≡ numbersAt (now (a .numbers)) (slotOf (a .number))
-found c =
-    let ns = now (c .before .before .before .before .before .before .before .before .before .before .before .before .args .numbers) in
-    c .numbers-at .ensures ∙ ap (λ (i : ℕ). numbersAt ns i) (c .before .slot-of .ensures)
-
-loop-answer-requires : tie.Need-loop-answer-requires
-loop-answer-requires c κs = sound _ (fit (c .before)) .numbers
-
-enum-known-known : tie.Need-enum-known-known
-enum-known-known c = search needs
-
-enum-told : tie.Need-enum-told
-enum-told c = search needs
-
-slot-of-requires : tie.Need-slot-of-requires
-slot-of-requires c κs = search needs
-
-numbers-at-requires : tie.Need-numbers-at-requires
-numbers-at-requires c κs =
-    let t = c .before .before in
-    let l = t .before .before in
-    let k = found-known t in
-    omega (arith, c .slot-of .ensures, sound _ (fit (l .before .before)) .numbers, k .above, k .below)
-
-record-of-requires : tie.Need-record-of-requires
-record-of-requires c κs = rw (found c) (found-known (c .before .before .before) .range)
-
-carry-out-requires : tie.Need-carry-out-requires
-carry-out-requires c κs =
-    let r = c .before .before in
-    let n = r .before in
-    let t = n .before .before .before in
-    let k = found-known t in
-    let memory = sound _ (fit (t .before .before .before .before)) in (
-      (omega (arith, memory .words, k .above, k .below), omega (arith, memory .numbers, k .above, k .below)),
-      (r .record-of .ensures ∙ ap recordFrom (found n), rw (r .record-of .ensures, found n) (ranged _ (k .range))),
-    )
+no-loop-requires : tie.Need-no-loop-requires
+no-loop-requires c κs = search needs
 
 same-length-3 : tie.Need-same-length-3
 same-length-3 c = search needs
@@ -98,8 +40,28 @@ same-length-4 : tie.Need-same-length-4
 same-length-4 c = search needs
 
 returns-2 : tie.Need-returns-2
-unfolding sampleLeft
-returns-2 c = promised _ _ (answered (c .before .before .before) (Refused (c .before .known .given .0 .0)) (c .before .known .given .1))
+unfolding sampleAnswer sampleLeft
+returns-2 c = promised _ _ (simp (fit (c .before .before), sym (c .before .no-loop .ensures) ∙ c .if2 .taken))
+
+-- and such a loop
+start : tie.Else2 → tie.Start
+start c = c .before .before .before .before .before .before .before
+
+there : (c : tie.Else2) → noLoop (start c .args .number) ≡ false
+unfolding start
+there c = sym (c .before .no-loop .ensures) ∙ c .if2 .left
+
+slot-of-requires : tie.Need-slot-of-requires
+slot-of-requires c κs = search needs
+
+numbers-at-requires : tie.Need-numbers-at-requires
+unfolding start
+numbers-at-requires c κs =
+    let e = c .before .before in
+    omega (arith, c .slot-of .ensures, sound _ (fit (e .before .before)) .numbers, loop-there (start e .args .number) (there e))
+
+out-of-range-requires : tie.Need-out-of-range-requires
+out-of-range-requires c κs = search needs
 
 same-length-5 : tie.Need-same-length-5
 same-length-5 c = search needs
@@ -107,12 +69,56 @@ same-length-5 c = search needs
 same-length-6 : tie.Need-same-length-6
 same-length-6 c = search needs
 
+-- the numbers read are the loop's, and so are those tested
+found : (c : tie.After-numbers-at) → let a = start (c .before .before .before) .args in c .numbers-at .result ≡ numbersAt (now (a .numbers)) (slotOf (a .number))
+unfolding start
+found c =
+    let ns = now (start (c .before .before .before) .args .numbers) in
+    c .numbers-at .ensures ∙ ap (λ (i : ℕ). numbersAt ns i) (c .before .slot-of .ensures)
+
+tested : (c : tie.After-out-of-range) → let a = start (c .before .before .before .before) .args in
+    outOfRange (numbersAt (now (a .numbers)) (slotOf (a .number))) ≡ c .out-of-range .result
+tested c = sym (c .out-of-range .ensures ∙ ap outOfRange (found (c .before)))
+
 returns-3 : tie.Need-returns-3
-unfolding sampleLeft
+unfolding sampleAnswer sampleLeft start
 returns-3 c =
+    let o = c .before in
+    let e = o .before .before .before .before in
+    promised _ _ (simp (fit (e .before .before), there e, tested o ∙ c .if3 .taken))
+
+record-of-requires : tie.Need-record-of-requires
+record-of-requires c κs = sym (c .before .out-of-range .ensures) ∙ c .if3 .left
+
+carry-out-requires : tie.Need-carry-out-requires
+unfolding start
+carry-out-requires c κs =
+    let r = c .before .before in
+    let f = r .before in
+    let n = f .before .before in
+    let e = n .before .before .before in
+    let memory = sound _ (fit (e .before .before)) in
+    let loop = loop-there (start e .args .number) (there e) in (
+      (omega (arith, memory .words, loop), omega (arith, memory .numbers, loop)),
+      (r .record-of .ensures ∙ ap recordFrom (found n), rw (r .record-of .ensures) (ranged _ (sym (f .before .out-of-range .ensures) ∙ f .if3 .left))),
+    )
+
+same-length-7 : tie.Need-same-length-7
+same-length-7 c = search needs
+
+same-length-8 : tie.Need-same-length-8
+same-length-8 c = search needs
+
+returns-4 : tie.Need-returns-4
+unfolding sampleLeft start
+returns-4 c =
     let k = c .before .before .before in
-    let t = k .before .before .before .before .before .before .before in
-    rw (answered (t .before .before) Accepted (t .enum-told .given .1)) (k .carry-out .ensures)
+    let f = k .before .before .before .before in
+    let o = f .before in
+    let e = o .before .before .before .before in
+    let a = start e .args in
+    let same = answer-judged (lent (now (a .words)) (now (a .numbers))) (a .number) (a .raw) (fit (e .before .before)) (there e) (tested o ∙ f .if3 .left) in
+    rw same (k .carry-out .ensures)
 
 pub sample-spec : {M : Type 1} → statement M
 sample-spec =
@@ -122,16 +128,18 @@ sample-spec =
     same-length
     same-length-2
     returns
-    loop-answer-requires
-    enum-known-known
-    enum-told
-    slot-of-requires
-    numbers-at-requires
-    record-of-requires
-    carry-out-requires
+    no-loop-requires
     same-length-3
     same-length-4
     returns-2
+    slot-of-requires
+    numbers-at-requires
+    out-of-range-requires
     same-length-5
     same-length-6
-    returns-3)
+    returns-3
+    record-of-requires
+    carry-out-requires
+    same-length-7
+    same-length-8
+    returns-4)

@@ -1,11 +1,13 @@
--- `desk::fields` meets its contract: by the length, and then by the loop's answer.
+-- `desk::fields` meets its contract: at each answer, the tests that led there pick the case.
 use native.Mathlib.Omega.{arith}
+use Prim.Native.Nat.{ℕ}
 use borrow.Author.Tests.{eq-eqb, ne-eqb}
-use mathlib.Core.Path.{_≡_, sym, _∙_}
+use mathlib.Core.Path.{_≡_, sym, ap, _∙_}
+use mathlib.Core.Bool.{false}
 use denote.Ref.{now}
-use Rattle.refusals.specs.Refusals.{firstOf}
-use Rattle.desk.specs.Desk.{loopCases, fieldsAnswer, fieldsLeft}
-use Rattle.desk.specs.Desk.Laws.{copied, known}
+use Rattle.carried.specs.Layout.{outOfRange, slotOf, numbersAt}
+use Rattle.desk.specs.Desk.{noLoop, fieldsAnswer, fieldsLeft}
+use Rattle.desk.specs.Desk.Laws.{copied, loop-there}
 use borrow.Author.Needs.{needs}
 use Rattle.desk.proofs.showing.fields.Statement.{statement}
 use Rattle.desk.proofs.showing.fields.Tie as tie
@@ -14,55 +16,66 @@ returns : tie.Need-returns
 unfolding fieldsAnswer fieldsLeft
 returns c = copied _ _ (simp (ne-eqb _ _ (c .if1 .taken)))
 
-loop-answer-requires : tie.Need-loop-answer-requires
-loop-answer-requires c κs = search needs
+no-loop-requires : tie.Need-no-loop-requires
+no-loop-requires c κs = search needs
 
--- past the length the loop decides
-answered : (c : tie.After-loop-answer) → let a = c .before .before .args in fieldsAnswer (now (a .numbers)) (a .number) ≡ c .loop-answer .result
-unfolding fieldsAnswer
-answered c = rw (eq-eqb _ _ (c .before .if1 .left)) (sym (c .loop-answer .ensures))
-
-enum-known-known : tie.Need-enum-known-known
-enum-known-known c = search needs
-
-enum-told : tie.Need-enum-told
-enum-told c = search needs
+returns-2 : tie.Need-returns-2
+unfolding fieldsAnswer fieldsLeft
+returns-2 c = copied _ _ (simp (eq-eqb _ _ (c .before .before .if1 .left), sym (c .before .no-loop .ensures) ∙ c .if2 .taken))
 
 slot-of-requires : tie.Need-slot-of-requires
 slot-of-requires c κs = search needs
 
+-- there is such a loop
+there : (c : tie.Else2) → noLoop (c .before .before .before .args .number) ≡ false
+there c = sym (c .before .no-loop .ensures) ∙ c .if2 .left
+
 numbers-at-requires : tie.Need-numbers-at-requires
 numbers-at-requires c κs =
-    let t = c .before .before in
-    let l = t .before .before in
-    let a = l .before .before .args in
-    let k = known (now (a .numbers)) (a .number) (sym (l .loop-answer .ensures) ∙ t .enum-told .given .1) in
-    omega (arith, c .slot-of .ensures, l .before .if1 .left, k .above, k .below)
+    let e = c .before in
+    omega (arith, c .slot-of .ensures, e .before .before .if1 .left, loop-there (e .before .before .before .args .number) (there e))
 
-put-numbers-requires : tie.Need-put-numbers-requires
-put-numbers-requires c κs = search needs
+out-of-range-requires : tie.Need-out-of-range-requires
+out-of-range-requires c κs = search needs
 
-returns-2 : tie.Need-returns-2
-unfolding fieldsAnswer fieldsLeft
-returns-2 c = copied _ _ (answered (c .before .before .before) ∙ c .before .known .given .1)
+-- the numbers tested are the loop's
+tested : (c : tie.After-out-of-range) → let a = c .before .before .before .before .before .before .args in
+    outOfRange (numbersAt (now (a .numbers)) (slotOf (a .number))) ≡ c .out-of-range .result
+tested c =
+    let n = c .before in
+    let ns = now (n .before .before .before .before .before .args .numbers) in
+    sym (c .out-of-range .ensures ∙ ap outOfRange (n .numbers-at .ensures ∙ ap (λ (i : ℕ). numbersAt ns i) (n .before .slot-of .ensures)))
 
 returns-3 : tie.Need-returns-3
 unfolding fieldsAnswer fieldsLeft
 returns-3 c =
-    let n = c .before in
-    let t = n .before .before .before in
-    rw (c .put-numbers .ensures, n .numbers-at .ensures, n .before .slot-of .ensures) (copied _ _ (answered (t .before .before) ∙ t .enum-told .given .1))
+    let o = c .before in
+    let e = o .before .before .before in
+    copied _ _ (simp (eq-eqb _ _ (e .before .before .if1 .left), there e, tested o ∙ c .if3 .taken))
+
+put-numbers-requires : tie.Need-put-numbers-requires
+put-numbers-requires c κs = search needs
+
+returns-4 : tie.Need-returns-4
+unfolding fieldsAnswer fieldsLeft
+returns-4 c =
+    let f = c .before .before in
+    let o = f .before in
+    let n = o .before in
+    let e = n .before .before in
+    rw (c .put-numbers .ensures, n .numbers-at .ensures, n .before .slot-of .ensures)
+    (copied _ _ (simp (eq-eqb _ _ (e .before .before .if1 .left), there e, tested o ∙ f .if3 .left)))
 
 pub fields-spec : {M : Type 1} → statement M
 fields-spec =
     tie.close
     (tie.spec
     returns
-    loop-answer-requires
-    enum-known-known
-    enum-told
+    no-loop-requires
+    returns-2
     slot-of-requires
     numbers-at-requires
+    out-of-range-requires
+    returns-3
     put-numbers-requires
-    returns-2
-    returns-3)
+    returns-4)
