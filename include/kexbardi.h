@@ -125,7 +125,7 @@ uint8_t kexbardi_reset(uint16_t *words, size_t words_length, int64_t *records, s
 
 /* Stores a value at an address of the words. The desk is lent whole; no record is looked at or changed.
  * Answers 5 where words_length is not 1,024 or records_length is not 128; 6 where the address is above 1,023
- * or one that only the engine writes (offset 3, 4, 6 or 29 of a loop); else 0, and that one word has the
+ * or one that is not the caller's to store (offset 3, 4, 6 or 29 of a loop); else 0, and that one word has the
  * value. */
 uint8_t kexbardi_store(uint16_t *words, size_t words_length, int64_t *records, size_t records_length, uint16_t address,
     uint16_t value);
