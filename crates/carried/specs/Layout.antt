@@ -1,6 +1,6 @@
 -- The carried record of a loop as numbers of 64 bits, in the order of document 01's list: their ranges, one row a number, and the place of each
 -- loop's record in the lent buffer.
-use Prim.Native.Nat.{ℕ, suc, _+_, _*_, _-_, _^_}
+use Prim.Native.Nat.{ℕ, suc, _*_, _-_, _^_}
 use mathlib.Core.Bool.{Bool, false, cond, _||_}
 use mathlib.Core.List.{List, [], _∷_}
 use lib.ListN.{length, getD, take, drop}

@@ -18,12 +18,12 @@ use Rattle.table.specs.Reading.{readingOf}
 use Rattle.table.specs.Reading.Laws.{numbered, reading-local}
 use Rattle.carried.specs.declared.record.Carried.{Carried}
 use Rattle.carried.specs.Layout.{slotOf, outOfRange, recordFrom, numbersOf, numbersAt, recordAt}
-use Rattle.judging.specs.Judging.{readingCases, Passed}
+use Rattle.judging.specs.Judging.{readingCases}
 use Rattle.judging.specs.Judging.Laws.{passed, passing}
 use Rattle.engine.specs.declared.stepping.Stepped.{Stepped}
 use Rattle.engine.specs.Sensing.{setpointOf, targetOf, sensedOf}
 use Rattle.engine.specs.Driving.{drivenOf}
-use Rattle.engine.specs.Writing.{writtenTo, statusWord, writtenOf}
+use Rattle.engine.specs.Writing.{statusWord, writtenOf}
 use Rattle.engine.specs.Writing.Laws.{written-length, written-other, written-block}
 use Rattle.engine.specs.Steps.{stepOf}
 use Rattle.reader.specs.File.{recordsOf}

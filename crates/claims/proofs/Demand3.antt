@@ -1,20 +1,18 @@
 -- Demand 3, proved: a turn keeps the loop's record tied to its plain loop, whatever it lends; so every turn of every list is good.
 use Prim.Native.Nat.{ℕ, _≤_}
 use native.Mathlib.Omega.{arith}
-use mathlib.Core.Path.{_≡_, refl, sym, ap, _∙_}
+use mathlib.Core.Path.{_≡_, refl, ap}
 use mathlib.Core.Bool.{Bool, true, false}
 use mathlib.Core.List.{List, [], _∷_}
 use Rattle.refusals.specs.declared.Refusal.the-variants.{Memory}
-use Rattle.refusals.specs.declared.Answer.{Answer}
-use Rattle.refusals.specs.declared.Answer.the-variants.{Accepted, Refused}
-use Rattle.refusals.specs.Refusals.{numberOf}
+use Rattle.refusals.specs.declared.Answer.the-variants.{Refused}
 use Rattle.refusals.specs.Refusals.Laws.{accepted-only}
 use Rattle.reader.specs.File.{recordsOf}
 use Rattle.carried.specs.Layout.{recordAt}
 use Rattle.plain.specs.Plain.{Plain, begun}
 use Rattle.plain.specs.Plain.Laws.{Tied, start-tied, within-one}
 use Rattle.desk.specs.Desk.{Desk, fittingOf}
-use Rattle.desk.specs.Lists.{Call, reset, store, sample, answerTo, deskAfter, deskBehind, fedBy, fed, plainBehind, Claim}
+use Rattle.desk.specs.Lists.{Call, reset, store, sample, answerTo, deskBehind, fed, Claim}
 use Rattle.desk.specs.Lists.Laws.{unfit, plain-append}
 use Rattle.desk.proofs.Accuracy as accuracy
 use Rattle.session.specs.Session.{begun as started, runOf, callsOf, leftOf}

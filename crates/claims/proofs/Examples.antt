@@ -1,8 +1,8 @@
 -- The computed examples of the crates below, named here so that none of them can go unnoticed.
 use mathlib.Core.Path.{_≡_}
-use mathlib.Core.List.{List, [], _∷_, map}
+use mathlib.Core.List.{[], _∷_, map}
 use Rattle.carried.specs.Layout.{recordAt}
-use Rattle.reader.specs.File.{recordsOf, spansOf}
+use Rattle.reader.specs.File.{recordsOf}
 use Rattle.reader.proofs.Examples as reader
 use Rattle.judging.proofs.Examples as judging
 use Rattle.engine.proofs.Starred as starred

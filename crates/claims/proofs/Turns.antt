@@ -5,13 +5,12 @@ use mathlib.Core.Path.{_≡_, sym, ap, _∙_}
 use mathlib.Core.Bool.{true, false}
 use mathlib.Core.List.{List, _++_}
 use lib.IntN.{ℤ}
-use lib.ListN.{length, take, drop, length-drop, take-append-drop}
+use lib.ListN.{length, drop, length-drop, take-append-drop}
 use lib.Seq.{take-append-le, drop-append-le}
 use Rattle.reader.specs.File.{recordsOf}
 use Rattle.carried.specs.Layout.{fieldCount, slotOf, numbersAt}
 use Rattle.desk.specs.Desk.{Desk, fittingOf}
 use Rattle.desk.specs.Desk.Laws.{sound}
-use Rattle.desk.specs.Lists.{Call, answerTo}
 use Rattle.desk.specs.Lists.Laws.{refused-call, unfit, numbers-kept, numbers-behind}
 use Rattle.session.specs.Session.{begun, callsOf, leftOf}
 use Rattle.session.specs.Session.Laws.{run-desk}

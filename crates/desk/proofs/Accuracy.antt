@@ -1,9 +1,9 @@
 -- Demand 3 of one call and of a list of calls: the record of each loop stays tied to its plain loop, and each accepted sample is accurate.
-use Prim.Native.Nat.{ℕ, _+_, _≤_, _<_}
+use Prim.Native.Nat.{ℕ, _+_, _≤_}
 use native.Mathlib.Omega.{arith}
 use mathlib.Core.Path.{_≡_, refl, sym, _∙_, subst}
 use mathlib.Core.Bool.{Bool, true, false}
-use mathlib.Core.List.{List, [], _∷_, _++_}
+use mathlib.Core.List.{List, [], _∷_}
 use lib.Dec.{eqb}
 use lib.ListN.{getD}
 use borrow.Author.Tests.{eqb-true, eqb-false}
@@ -14,11 +14,11 @@ use Rattle.table.specs.Words.{baseOf}
 use Rattle.table.specs.Reading.{readingOf}
 use Rattle.table.specs.Reading.Laws.{limit-low, limit-high}
 use Rattle.carried.specs.declared.record.State.{State}
-use Rattle.carried.specs.Layout.{recordFrom, recordAt}
+use Rattle.carried.specs.Layout.{recordAt}
 use Rattle.engine.specs.Writing.Laws.{written-output}
-use Rattle.plain.specs.Plain.{Plain, begun, plainAfter}
+use Rattle.plain.specs.Plain.{Plain, plainAfter}
 use Rattle.plain.specs.Plain.Laws.{Tied, start-tied, sample-good}
-use Rattle.desk.specs.Desk.{Desk, leftBy, resetAnswer, resetLeft, storeAnswer, storeLeft, sampleAnswer, sampleLeft, sampleDone, stepAt}
+use Rattle.desk.specs.Desk.{Desk, resetLeft, storeLeft, sampleLeft, sampleDone, stepAt}
 use Rattle.desk.specs.Desk.Laws.{Sampled, sampled, own-record, other-numbers}
 use Rattle.desk.specs.Lists.{Call, reset, store, sample, answerTo, deskAfter, deskBehind, fedBy, fed, plainBehind, Accurate, Claim, Holds}
 

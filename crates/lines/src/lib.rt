@@ -6,7 +6,6 @@ use text::put_byte;
 use text::put_decimal;
 use text::put_hex;
 use text::put_text;
-ghost use mathlib.Core.Path.{_≡_};
 ghost use mathlib.Core.List.{_++_};
 ghost use Prim.Native.Nat.{_+_, _≤_, _<_};
 ghost use lib.ListN.{length};

@@ -5,22 +5,19 @@ use Prim.Native.Nat.{ℕ, _+_, _*_, _^_, _≤_, _<_}
 use native.Mathlib.Omega.{arith}
 use native.Mathlib.Nat.{mul-le-mul}
 use lib.Dec.{T}
-use lib.IntN.{ℤ, pos, negsuc, natAbs, _+ℤ_, _-ℤ_}
+use lib.IntN.{ℤ, pos, negsuc, natAbs, _-ℤ_}
 use lib.Signed.{mag, ltZ, _≤ℤ_, _<ℤ_, ltZ-yes, ltZ-no}
 use mir.Syntax.{w64}
 use mir.Val.{SFits, toZ, ofZ}
 use mir.Facts as F
-use Rattle.numbers.specs.Whole.{abs-add, abs-sub}
+use Rattle.numbers.specs.Whole.{abs-sub}
 
 -- ---- the range of 64 bits
 
--- z fits where its magnitude is below 2 ^ 63; a sum and a difference where the magnitudes add up to less
+-- z fits where its magnitude is below 2 ^ 63; a difference where the magnitudes add up to less
 pub small : {z : ℤ} → natAbs z < 2 ^ 63 → SFits w64 z
 small {z = pos n} h = record { sfits = h }
 small {z = negsuc n} h = record { sfits = omega arith }
-
-pub add-fits : (a b : ℤ) → natAbs a + natAbs b < 2 ^ 63 → SFits w64 (a +ℤ b)
-add-fits a b h = small (omega (arith, abs-add a b))
 
 pub sub-fits : (a b : ℤ) → natAbs a + natAbs b < 2 ^ 63 → SFits w64 (a -ℤ b)
 sub-fits a b h = small (omega (arith, abs-sub a b))

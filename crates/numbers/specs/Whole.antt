@@ -4,12 +4,11 @@
 -- `omega (arith, linear, add a b, sub c d)` proves an order or an equation of whole numbers. The rules of `linear` turn the goal and
 -- every hypothesis; `add a b` says what the sum `a +ℤ b` is, and so on for each sum, difference, negation or multiple that occurs.
 -- A bound on a magnitude is proved by `abs-in z (omega (arith, linear, ..))`, and one in hand is read by `abs z`.
-use mathlib.Core.Path.{_≡_, refl, sym, ap, _∙_, subst}
+use mathlib.Core.Path.{_≡_, refl, sym, ap, subst}
 use mathlib.Core.Bool.{Bool, true, false, not, cond}
 use Prim.Native.Nat.{ℕ, zero, suc, _+_, _*_, _-_, _≤_, _<_, min}
 use native.Mathlib.Omega.{arith}
-use native.Mathlib.Nat.{mul-le-mul-left}
-use lib.Dec.{T, ltb, ltb→lt, nltb→le, lt→ltb, leb, leb→le, le→leb}
+use lib.Dec.{T, ltb, ltb→lt, nltb→le, lt→ltb, leb→le, le→leb}
 use lib.IntN.{ℤ, pos, negsuc, negℤ, natAbs, subℕ, _+ℤ_, _-ℤ_, _*ℤ_}
 use lib.Signed.{_≤ℤ_, _<ℤ_}
 
@@ -129,10 +128,6 @@ abs-scale k (pos n) = refl
 abs-scale k (negsuc n) = abs-neg (pos (k * suc n))
 
 -- ---- multiples: a law of sums is handed to `omega` multiplied
-
-pub scale-add : (k : ℕ) (a b : ℤ) → pos k *ℤ (a +ℤ b) ≡ (pos k *ℤ a) +ℤ (pos k *ℤ b)
-scale-add k a b =
-    omega (arith, linear, scale k (a +ℤ b), scale k a, scale k b, add (pos k *ℤ a) (pos k *ℤ b), ap (λ (n : ℕ). k * n) (add a b))
 
 pub scale-neg : (k : ℕ) (a : ℤ) → pos k *ℤ negℤ a ≡ negℤ (pos k *ℤ a)
 scale-neg k a =

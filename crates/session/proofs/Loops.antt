@@ -17,7 +17,7 @@ use Rattle.desk.specs.Desk.{Desk, lent}
 use Rattle.lines.specs.Lines.{lineText, lastText}
 use Rattle.lines.specs.Widths.{widthOf}
 use Rattle.lines.proofs.Widths.{line-room}
-use Rattle.session.specs.Session.{numberFor, leftFor, countOf, shownFor, State, state, begun, after, runOf, answersFor}
+use Rattle.session.specs.Session.{numberFor, leftFor, countOf, shownFor, state, begun, after, runOf, answersFor}
 use Rattle.session.specs.Session.Laws.{count-small}
 use Rattle.session.specs.Printed.{linesOf}
 

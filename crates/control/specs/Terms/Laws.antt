@@ -5,7 +5,7 @@ use Prim.Native.Nat.{ℕ, _*_, _-_, _^_, _≤_, _<_}
 use native.Mathlib.Omega.{arith}
 use native.Mathlib.Nat.{mul-comm, mul-le-mul, mul-le-mul-left}
 use lib.Dec.{lit<, eqb}
-use lib.IntN.{ℤ, pos, negℤ, natAbs, _-ℤ_, _*ℤ_}
+use lib.IntN.{ℤ, pos, natAbs, _-ℤ_, _*ℤ_}
 use Rattle.numbers.specs.Whole.{abs-neg, abs-sub, abs-scale, scale-scale}
 use Rattle.numbers.specs.Limits.Laws.{by-test}
 use Rattle.numbers.specs.Rounding.{halfAway}

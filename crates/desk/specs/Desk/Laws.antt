@@ -6,25 +6,21 @@ use mathlib.Core.Bool.{Bool, true, false, _&&_}
 use lib.Dec.{ltb, eqb}
 use mathlib.Core.List.{List, _∷_, _++_, flatten}
 use lib.IntN.{ℤ, pos}
-use lib.ListN.{length, getD, replicate, length-set}
-use lib.Seq.{sets, length-sets}
+use lib.ListN.{length, replicate}
 use borrow.Author.Tests.{eqb-true, not-false, ltb-false, le-ltb}
-use Rattle.refusals.specs.declared.Refusal.{Refusal}
 use Rattle.refusals.specs.declared.Answer.{Answer}
-use Rattle.refusals.specs.declared.Answer.the-variants.{Accepted, Refused}
+use Rattle.refusals.specs.declared.Answer.the-variants.{Accepted}
 use Rattle.refusals.specs.declared.Refusal.the-variants.{Record}
 use Rattle.refusals.specs.Refusals.{_⇒_, firstOf}
 use Rattle.refusals.specs.Refusals.Laws.{accepted-at, accepted-rest}
-use Rattle.table.specs.Words.{baseOf}
 use Rattle.table.specs.Words.Laws.{or-false}
-use Rattle.carried.specs.declared.record.Carried.{Carried}
 use Rattle.carried.specs.Layout.{numberCount, slotOf, outOfRange, numbersOf, recordFrom, numbersAt, recordAt, resetRecord}
 use Rattle.carried.specs.Layout.Laws.{read-back, numbers-length, put-same, put-other, ranged, in-range}
 use Rattle.carried.specs.Ranged.{Ranged}
 use Rattle.judging.specs.Judging.{readingCases}
 use Rattle.engine.specs.Steps.Laws.{usable, stepped-ranged}
 use Rattle.engine.specs.Premises.{Usable}
-use Rattle.desk.specs.Desk.{Desk, lent, fittingOf, memoryCases, leftBy, resetDesk, resetAnswer, resetLeft, storeCases, storeAnswer, storeLeft, noLoop, loopCases, readingAt, sampleCases, stepAt, sampleDone, sampleAnswer, sampleLeft, judgedAnswer, copiedBy}
+use Rattle.desk.specs.Desk.{Desk, lent, fittingOf, memoryCases, leftBy, resetDesk, resetAnswer, resetLeft, noLoop, loopCases, readingAt, stepAt, sampleDone, sampleAnswer, judgedAnswer, copiedBy}
 
 -- ---- any call
 

@@ -9,7 +9,6 @@ use lib.IntN.{pos}
 use lib.ListN.{length, drop, replicate, length-take, length-drop, getD-replicate}
 use lib.Seq.{length-sets, ext-getD, getD-take, getD-drop}
 use borrow.Author.Tests.{eqb-true, eqb-false}
-use Rattle.refusals.specs.declared.Refusal.{Refusal}
 use Rattle.refusals.specs.declared.Refusal.the-variants.{Memory}
 use Rattle.refusals.specs.declared.Answer.{Answer}
 use Rattle.refusals.specs.declared.Answer.the-variants.{Accepted, Refused}
@@ -18,7 +17,7 @@ use Rattle.carried.specs.Layout.{fieldCount, numberCount, slotOf, outOfRange, n
 use Rattle.plain.specs.Plain.{Plain}
 use Rattle.desk.specs.Desk.{Desk, fittingOf, leftBy, resetDesk, resetAnswer, resetLeft, storeAnswer, storeLeft, sampleAnswer, sampleLeft, sampleDone, stepAt}
 use Rattle.desk.specs.Desk.Laws.{sound, fits, reset-numbers, sampled, own-range, other-numbers}
-use Rattle.desk.specs.Lists.{Call, reset, store, sample, answerTo, deskAfter, deskBehind, fed, plainBehind, Holds}
+use Rattle.desk.specs.Lists.{Call, reset, store, sample, answerTo, deskAfter, deskBehind, fed, plainBehind}
 
 -- by an answer with a number above 0
 refused-by : (a : Answer) (after before : Desk) → 0 < numberOf a → leftBy a after before ≡ before

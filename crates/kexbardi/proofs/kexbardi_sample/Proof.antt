@@ -1,5 +1,5 @@
 -- `kexbardi::kexbardi_sample` meets its contract: it is the desk's call, and the line is that of the words after it.
-use mathlib.Core.Path.{_≡_, ap, _∙_}
+use mathlib.Core.Path.{ap, _∙_}
 use Rattle.refusals.specs.Refusals.{numberOf}
 use Rattle.desk.specs.Desk.{Desk, lineOf}
 use Rattle.kexbardi.specs.Interface.{lineLeft}

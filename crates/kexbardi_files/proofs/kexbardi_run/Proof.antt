@@ -1,8 +1,8 @@
 -- `kexbardi_files::kexbardi_run` meets its contract: by how the session ended.
-use mathlib.Core.Path.{_≡_, sym, ap, _∙_}
+use mathlib.Core.Path.{sym, ap, _∙_}
 use denote.Ref.{now}
 use Rattle.session.specs.declared.running.Ended.{Ended}
-use Rattle.kexbardi_files.specs.Files.{ended, endedBy}
+use Rattle.kexbardi_files.specs.Files.{endedBy}
 use borrow.Author.Needs.{needs}
 use Rattle.kexbardi_files.proofs.kexbardi_run.Statement.{statement}
 use Rattle.kexbardi_files.proofs.kexbardi_run.Tie as tie

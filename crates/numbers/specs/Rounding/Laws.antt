@@ -5,7 +5,7 @@ use native.Mathlib.Omega.{arith}
 use native.Mathlib.Nat.{div-zero, div-eq-of-lt-le, div-mul-le-self, lt-div-mul-add, le-div-iff-mul-le, mul-le-mul-right}
 use lib.IntN.{ℤ, pos, negsuc, negℤ, natAbs, _-ℤ_, _*ℤ_, negℤ-negℤ}
 use lib.Signed.{_≤ℤ_, _<ℤ_}
-use Rattle.numbers.specs.Whole.{linear, le-out, lt-out, neg, sub, scale-neg, abs-in, abs-neg}
+use Rattle.numbers.specs.Whole.{le-out, lt-out, neg, sub, scale-neg, abs-in, abs-neg}
 use Rattle.numbers.specs.Rounding.{halfUp, withSign, halfAway}
 
 -- ---- halves up
@@ -110,19 +110,3 @@ half-away-tie z p k e = ap (withSign z) (half-up-tie (natAbs z) p k e)
 pub half-away-neg : (z : ℤ) (d : ℕ) → halfAway (negℤ z) d ≡ negℤ (halfAway z d)
 unfolding halfAway
 half-away-neg z d = sign-neg (λ (n : ℕ). halfUp n d) (half-up-zero d) z
-
--- a whole quotient is itself
-pub half-away-whole : (k : ℤ) {d : ℕ} → 0 < d → halfAway (pos d *ℤ k) d ≡ k
-unfolding halfAway
-half-away-whole (pos n) p = ap pos (half-up-whole n p)
-half-away-whole (negsuc n) {d} p =
-    half-away-neg (pos (d * suc n)) d ∙ ap (λ (k : ℕ). negℤ (pos k)) (half-up-whole (suc n) p)
-
-pub half-away-mono : {a b : ℤ} → a ≤ℤ b → (d : ℕ) → halfAway a d ≤ℤ halfAway b d
-unfolding halfAway
-half-away-mono {a = pos m} {b = pos n} h d = omega (arith, linear, half-up-mono {m = m} {n = n} (omega (arith, le-out h)) d)
-half-away-mono {a = pos m} {b = negsuc n} h d = absurd (h .le)
-half-away-mono {a = negsuc m} {b = pos n} h d = omega (arith, linear, neg (pos (halfUp (suc m) d)))
-half-away-mono {a = negsuc m} {b = negsuc n} h d =
-    let k = half-up-mono {m = suc n} {n = suc m} (omega (arith, le-out h)) d in
-    omega (arith, linear, neg (pos (halfUp (suc m) d)), neg (pos (halfUp (suc n) d)))

@@ -1,5 +1,4 @@
--- The laws of a run: counts and answers agree, the answers are numbers of the table, a refused record leaves the desk, and a run is the desk's
--- calls in a row.
+-- The laws of a run: counts and answers agree, a refused record leaves the desk, and a run is the desk's calls in a row.
 use Prim.Native.Nat.{ℕ, suc, _+_, _≤_, _<_}
 use native.Mathlib.Omega.{arith}
 use mathlib.Core.Path.{_≡_, refl, ap}
@@ -7,17 +6,12 @@ use mathlib.Core.Bool.{Bool, true, false, cond}
 use lib.Dec.{eqb}
 use mathlib.Core.List.{List, [], _∷_}
 use lib.ListN.{length}
-use Rattle.refusals.specs.declared.Answer.{Answer}
-use Rattle.refusals.specs.declared.Answer.the-variants.{Accepted}
-use Rattle.refusals.specs.declared.Answer.the-variants.{Refused as No}
-use Rattle.refusals.specs.Refusals.{numberOf}
-use Rattle.refusals.specs.Refusals.Laws.{in-table}
 use Rattle.reader.specs.declared.Record.{Record}
 use Rattle.reader.specs.declared.Record.the-variants.{Store, Sample, Refused}
 use Rattle.desk.specs.Desk.{Desk}
 use Rattle.desk.specs.Lists.Laws.{refused-call}
-use Rattle.desk.specs.Lists.{Call, store, sample, answerTo, deskAfter, deskBehind}
-use Rattle.session.specs.Session.{answerFor, numberFor, leftFor, countOf, State, begun, after, runOf, answersFor, refusalsIn, callsOf}
+use Rattle.desk.specs.Lists.{store, sample, deskBehind}
+use Rattle.session.specs.Session.{numberFor, leftFor, countOf, State, after, runOf, answersFor, refusalsIn, callsOf}
 
 -- ---- answers and counts
 
@@ -40,11 +34,6 @@ pub answers-length : (d : Desk) (xs : List Record) → length (answersFor d xs) 
 unfolding answersFor
 answers-length d [] = refl
 answers-length d (x ∷ xs) = ap suc (answers-length (leftFor d x) xs)
-
--- every answer is 0 or a number of the table
-answer-small : (a : Answer) → numberOf a ≤ 9
-answer-small Accepted = omega arith
-answer-small (No why) = in-table why .1
 
 -- ---- a refused record leaves the desk
 

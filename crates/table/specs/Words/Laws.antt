@@ -5,7 +5,7 @@ use native.Mathlib.Nat.{add-sub-of-le}
 use mathlib.Core.Path.{_≡_, refl}
 use mathlib.Core.Bool.{Bool, true, false, cond, _||_}
 use mathlib.Core.List.{List, [], _∷_}
-use lib.ListN.{length, getD, length-take, length-drop}
+use lib.ListN.{getD}
 use lib.Seq.{getD-take, getD-drop}
 use lib.Pow.{shl-shr, shr-shr}
 use lib.Dec.{ltb}

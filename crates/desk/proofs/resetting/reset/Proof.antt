@@ -1,6 +1,6 @@
 -- `desk::reset` meets its contract: by the lengths of the memory.
 use borrow.Author.Tests.{not-true, not-false}
-use mathlib.Core.Path.{_≡_, sym, _∙_}
+use mathlib.Core.Path.{sym, _∙_}
 use Rattle.desk.specs.Desk.{resetAnswer, resetLeft}
 use Rattle.desk.specs.Desk.Laws.{promised, reset-done}
 use borrow.Author.Needs.{needs}

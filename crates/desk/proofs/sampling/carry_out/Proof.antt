@@ -1,7 +1,5 @@
 -- `desk::carry_out` meets its contract: the reading is that of the record's mode, judged as the definition judges it, and stepped.
 use mathlib.Core.Path.{_≡_, sym, ap, _∙_}
-use mathlib.Core.List.{List}
-use Prim.Native.Nat.{ℕ}
 use denote.Ref.{now}
 use Rattle.refusals.specs.declared.Answer.the-variants.{Accepted}
 use Rattle.refusals.specs.Refusals.{firstOf}
@@ -9,7 +7,6 @@ use Rattle.table.specs.declared.reading.Reading.{Reading}
 use Rattle.table.specs.Reading.{readingOf}
 use Rattle.carried.specs.declared.record.Carried.{Carried}
 use Rattle.judging.specs.Judging.{readingCases}
-use Rattle.engine.specs.declared.stepping.Stepped.{Stepped}
 use Rattle.engine.specs.Steps.{stepOf}
 use Rattle.engine.specs.Steps.Laws.{usable}
 use Rattle.desk.specs.Desk.{lent, judgedAnswer, stepAt, sampleDone}

@@ -5,7 +5,7 @@ use mathlib.Core.Bool.{true}
 use borrow.Author.Tests.{lt-ltb, le-ltb}
 use lib.IntN.{pos}
 use lib.ListN.{replicate}
-use Rattle.desk.specs.Desk.{lent, fittingOf, resetDesk}
+use Rattle.desk.specs.Desk.{lent, fittingOf}
 use Rattle.desk.specs.Desk.Laws.{reset-sound}
 use Rattle.session.specs.Printed.{printedOf, printedWithin}
 use Rattle.session.proofs.Loops.{printed}
