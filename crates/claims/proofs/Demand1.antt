@@ -1,40 +1,29 @@
 -- Demand 1, proved.
 use Prim.Native.Nat.{ℕ, suc, zero, _+_, _*_, _≤_, _<_}
 use native.Mathlib.Omega.{arith}
-use mathlib.Core.Path.{_≡_, refl, sym, ap, _∙_}
-use mathlib.Core.Bool.{Bool, true, false, cond}
-use mathlib.Core.List.{List, [], _∷_, _++_, append-assoc}
+use native.Mathlib.Nat.{zero-add, add-zero, add-suc, suc-add}
+use mathlib.Core.Path.{_≡_, refl, sym, _∙_}
+use mathlib.Core.Logic.{_≢_}
+use mathlib.Core.Bool.{Bool, true, false, cond, or-true}
+use mathlib.Core.List.{List, [], _∷_, _++_, append-assoc, append-nil}
 use lib.Dec.{ltb}
-use lib.IntN.{ℤ, pos}
-use lib.ListN.{length, getD, set, replicate, length-append}
-use borrow.Author.Tests.{ne-eqb, le-ltb, ltb-false}
-use Rattle.refusals.specs.declared.Answer.{Answer}
-use Rattle.refusals.specs.declared.Answer.the-variants.{Accepted, Refused}
-use Rattle.refusals.specs.Refusals.{numberOf}
-use Rattle.refusals.specs.Refusals.Laws.{in-table}
-use Rattle.refusals.specs.declared.Refusal.the-variants.{Cut}
+use lib.ListN.{length, getD, set, length-set, length-append}
+use lib.Seq.{sets, getD-set-same, getD-set-other}
+use borrow.Author.Tests.{ne-eqb, lt-ltb, le-ltb, ltb-false}
 use Rattle.reader.specs.declared.Record.{Record}
-use Rattle.reader.specs.declared.Record.the-variants.{Refused as Unread}
-use Rattle.reader.specs.File.{wordAt, isCut, recordAt, recordsOf}
-use Rattle.reader.specs.File.Laws.{covered, spans-length, cut-last, whole-not-cut, records-step, records-end}
-use Rattle.carried.specs.Layout.{numberCount, slotOf, numbersAt}
-use Rattle.desk.specs.Desk.{Desk, lent, fittingOf, resetDesk, resetAnswer, resetLeft, engineWord, storeAnswer, storeLeft, sampleAnswer, copiedBy, fieldsAnswer, fieldsLeft}
-use Rattle.desk.specs.Lists.{reset, store, sample, answerTo, deskAfter}
-use Rattle.desk.specs.Desk.Laws.{reset-sound, reset-numbers, reset-fits}
-use Rattle.desk.specs.Lists.Laws.{refused-call, unfit}
+use Rattle.reader.specs.File.{wordAt, wholeAt, recordsOf}
+use Rattle.reader.specs.File.Laws.{covered, spans-length, cut-at, whole-at, cut-last, records-step, spans-step, records-end}
+use Rattle.desk.specs.Desk.{Desk, fittingOf, resetDesk}
+use Rattle.desk.specs.Desk.Laws.{reset-fits}
 use Rattle.lines.specs.Lines.{lineText, lastText}
 use Rattle.session.specs.Session.{answerFor, numberFor, leftFor, shownFor, State, begun, after, runOf, answersFor, refusalsIn, endedOf, leftOf, answersOf}
 use Rattle.session.specs.Session.Laws.{run-counts, answers-length, refused-leaves}
-use Rattle.session.specs.Printed.{linesOf, bodyOf, tooLong, printedOf, printedWithin}
-use Rattle.kexbardi.specs.Interface.{lineLeft}
-use Rattle.kexbardi_files.specs.Files.{printed, printedBy, printLeft}
-use Rattle.claims.specs.Demand1.{Demand1}
+use Rattle.session.specs.Printed.{linesOf, bodyOf, tooLong, printedOf, roomFor, printedWithin}
+use Rattle.kexbardi_files.specs.Files.{printed, printLeft}
+use Rattle.claims.specs.Demand1.{Whole, Demand1}
+use Rattle.claims.proofs.Calls.{small, called}
 
 -- ---- the answers of a file
-
-small : (a : Answer) → numberOf a ≤ 9
-small Accepted = omega arith
-small (Refused why) = in-table why .1
 
 answers-small : (d : Desk) (xs : List Record) (i : ℕ) → getD (answersFor d xs) i 0 ≤ 9
 unfolding answersFor
@@ -49,6 +38,12 @@ unfolding answersFor runOf
 answer-at t [] x after = refl
 answer-at t (y ∷ before) x after′ = answer-at (after t y) before x after′
 
+-- the desk behind one more record
+run-last : (t : State) (before : List Record) (x : Record) → runOf t (before ++ (x ∷ [])) .desk ≡ leftFor (runOf t before .desk) x
+unfolding runOf
+run-last t [] x = refl
+run-last t (y ∷ before) x = run-last (after t y) before x
+
 numbers-small : (file : List ℕ) (d : Desk) (i : ℕ) → getD (answersOf file d) i 0 ≤ 9
 unfolding answersOf
 numbers-small file d i = go (fittingOf d)
@@ -57,19 +52,20 @@ numbers-small file d i = go (fittingOf d)
     go true = answers-small d (recordsOf file) i
     go false = omega arith
 
--- ---- refused direct calls
+-- ---- the answers' buffer: values stored from a place on, as far as there is room
 
-sample-left : (d : Desk) (k raw : ℕ) (line : List ℕ) → 0 < numberOf (sampleAnswer d k raw) → lineLeft d k raw line ≡ line
-unfolding lineLeft
-sample-left d k raw line h = rw (ne-eqb (numberOf (sampleAnswer d k raw)) 0 (λ e. omega arith))
+sets-before : (vs l : List ℕ) (i j : ℕ) → j < i → getD (sets l i vs) j 0 ≡ getD l j 0
+sets-before [] l i j h = refl
+sets-before (v ∷ vs) l i j h = let other : j ≢ i = λ e. omega (arith, e) in sets-before vs (set l i v) (suc i) j (omega arith) ∙ rw getD-set-other
 
-fields-left : (ns : List ℤ) (k : ℕ) (copied : List ℤ) → 0 < numberOf (fieldsAnswer ns k) → fieldsLeft ns k copied ≡ copied
-unfolding fieldsLeft
-fields-left ns k copied h = go (fieldsAnswer ns k) (numbersAt ns (slotOf k)) h
-  where
-    go : (a : Answer) (found : List ℤ) → 0 < numberOf a → copiedBy a found copied ≡ copied
-    go Accepted found p = absurd (omega arith)
-    go (Refused why) found p = refl
+sets-at : (vs l : List ℕ) (i j : ℕ) → i + j < length l → j < length vs → getD (sets l i vs) (i + j) 0 ≡ getD vs j 0
+sets-at [] l i j h k = absurd (omega arith)
+sets-at (v ∷ vs) l i zero h k = rw (add-zero i) (sets-before vs (set l i v) (suc i) i (omega arith) ∙ getD-set-same l i v 0 (omega arith))
+sets-at (v ∷ vs) l i (suc j) h k = rw (add-suc i j, ← suc-add i j) (sets-at vs (set l i v) (suc i) j (simp length-set (omega arith)) (omega arith))
+
+sets-behind : (vs l : List ℕ) (i j : ℕ) → i + length vs ≤ j → getD (sets l i vs) j 0 ≡ getD l j 0
+sets-behind [] l i j h = refl
+sets-behind (v ∷ vs) l i j h = let other : j ≢ i = λ e. omega (arith, e) in sets-behind vs (set l i v) (suc i) j (omega arith) ∙ rw getD-set-other
 
 -- ---- a printed text
 
@@ -96,23 +92,6 @@ pub printed-whole : (file : List ℕ) → printedWithin 655460 file ≡ printedO
 unfolding printedWithin
 printed-whole file = rw (le-ltb 655460 _ (enough (ltb 65536 (length file)) (length file) refl))
 
-print-left : (file out : List ℕ) (size : ℕ) → 0 < printLeft file out size .number → printLeft file out size ≡ printed 5 out size
-unfolding printLeft
-print-left file out size h = go (printedWithin (length out) file) h
-  where
-    go : (text : List ℕ) → 0 < printedBy text out size .number → printedBy text out size ≡ printed 5 out size
-    go [] p = refl
-    go (x ∷ text) p = absurd (omega (arith, rw (ne-eqb (length (x ∷ text)) 0 (λ e. omega arith)) at p))
-
--- ---- the record at a position
-
-at-position : (file : List ℕ) (at : ℕ) → let r = recordAt file at in
-    (isCut file at ≡ true → (r .item ≡ Unread Cut) × (r .next ≡ length file))
-    × (isCut file at ≡ false → (r .item ≡ Unread Cut → ⊥) × (r .next ≡ at + 2 + wordAt file at))
-unfolding recordAt
-at-position file at =
-    (λ e. rw e (refl, refl), λ e. rw e (λ z. omega (arith, whole-not-cut file (at + 2) (wordAt file at) z), refl))
-
 -- ---- what is printed
 
 last-line : (t : State) (xs : List Record) → linesOf t xs ≡ bodyOf t xs ++ lastText (runOf t xs .count) (runOf t xs .refused)
@@ -132,44 +111,81 @@ printed-lines file h =
     let m : runOf (begun resetDesk) (recordsOf file) .refused ≡ refusalsIn (answersFor resetDesk (recordsOf file)) = omega (arith, c) in
     rw (le-ltb 65536 (length file) h, reset-fits) (last-line (begun resetDesk) (recordsOf file) ∙ rw (n, m))
 
--- ---- calls that are carried out
+one-line : (t : State) (before : List Record) (x : Record) → let here = runOf t before in
+    bodyOf t (before ++ (x ∷ [])) ≡ bodyOf t before ++ lineText (here .count + 1) x (numberFor (here .desk) x) (shownFor (leftFor (here .desk) x .words) x)
+unfolding bodyOf runOf
+one-line t [] x = append-nil _
+one-line t (y ∷ before) x =
+    let first = lineText (t .count + 1) y (numberFor (t .desk) y) (shownFor (leftFor (t .desk) y .words) y) in
+    let here = runOf (after t y) before in
+    rw (one-line (after t y) before x)
+    (sym (append-assoc first (bodyOf (after t y) before) (lineText (here .count + 1) x (numberFor (here .desk) x) (shownFor (leftFor (here .desk) x .words) x))))
 
-stored : (d : Desk) (address value : ℕ) → fittingOf d ≡ true → address ≤ 1023 → engineWord address ≡ false
-    → (numberOf (storeAnswer d address) ≡ 0) × (storeLeft d address value ≡ lent (set (d .words) address value) (d .numbers))
-unfolding storeLeft storeAnswer
-stored d address value fit low free =
-    let a : storeAnswer d address ≡ Accepted = rw (fit, le-ltb 1023 address low, free) in
-    (ap numberOf a, rw a)
+numbered-line : (before : List Record) (x : Record) → let here = runOf (begun resetDesk) before .desk in
+    bodyOf (begun resetDesk) (before ++ (x ∷ []))
+    ≡ bodyOf (begun resetDesk) before ++ lineText (length before + 1) x (numberFor here x) (shownFor (leftFor here x .words) x)
+numbered-line before x =
+    let n : runOf (begun resetDesk) before .count ≡ length before = omega (arith, run-counts (begun resetDesk) before) in
+    rw (← n) (one-line (begun resetDesk) before x)
 
-cleared : (d : Desk) → fittingOf d ≡ true
-    → (numberOf (resetAnswer d) ≡ 0) × (resetLeft d ≡ lent (replicate 1024 0) (replicate numberCount (pos 0)))
-unfolding resetAnswer
-cleared d fit = (rw fit, reset-sound d fit ∙ reset-numbers)
+long-file : (file : List ℕ) → 65536 < length file → printedOf file ≡ tooLong
+unfolding printedOf
+long-file file h = rw (lt-ltb 65536 (length file) h)
+
+module _ (file out : List ℕ) (size : ℕ) where
+  printed-there : roomFor file ≤ length out → printLeft file out size ≡ printed 0 (sets out 0 (printedOf file)) (length (printedOf file))
+  unfolding printLeft printedWithin
+  printed-there h = rw (le-ltb (length out) (roomFor file) h, ne-eqb (length (printedOf file)) 0 (λ e. omega (arith, printed-some file)))
+
+  not-printed : length out < roomFor file → printLeft file out size ≡ printed 5 out size
+  unfolding printLeft printedWithin
+  not-printed h = rw (lt-ltb (length out) (roomFor file) h)
+
+-- ---- the record at a position
+
+whole-item : (file : List ℕ) (at n : ℕ) → Whole file at n (wordAt file at) (wholeAt file at n)
+whole-item file at n = record {
+  short = λ h. rw (lt-ltb n 2 h);
+  unknown = λ p q. rw (ne-eqb (wordAt file at) 1 p, ne-eqb (wordAt file at) 2 q, or-true);
+  store = λ k e. rw (e, k);
+  sample = λ k e. rw (e, k);
+  store-length = λ h k e. rw (le-ltb n 2 h, k, ne-eqb n 6 e);
+  sample-length = λ h k e. rw (le-ltb n 2 h, k, ne-eqb n 5 e);
+}
 
 -- ---- all of it
 
 pub demand-1 : Demand1
-unfolding answersOf endedOf leftOf answerTo deskAfter
+unfolding answersOf endedOf leftOf refusalsIn bodyOf
 demand-1 = record {
   read = λ file. (covered file, spans-length file);
-  position = at-position;
-  next = records-step;
+  cut = λ file at h. rw (cut-at file at h) (refl, refl);
+  whole = λ file at h. rw (whole-at file at h) (whole-item file (at + 2) (wordAt file at), refl);
+  next = λ file at h. (records-step file at h, spans-step file at h);
   end = records-end;
-  cut = cut-last;
+  unread = λ d. (refl, refl, refl);
+  last = cut-last;
   counted = λ file d count refused fit.
       let c = run-counts (begun d) (recordsOf file) in
       rw fit (refl, omega (arith, c), answers-length d (recordsOf file) ∙ sym (omega (arith, c)), omega (arith, c));
+  refusals = (refl, λ l. omega arith, λ a l. rw (ne-eqb (suc a) 0 (λ e. omega (arith, e))) (omega arith));
   numbers = numbers-small;
-  each = λ file d fit before x after e. (rw (fit, e) (answer-at (begun d) before x after), refused-leaves (runOf (begun d) before .desk) x);
+  each = λ file d fit before x after e. (
+    rw (fit, e) (answer-at (begun d) before x after),
+    run-last (begun d) before x,
+    λ h. run-last (begun d) before x ∙ refused-leaves (runOf (begun d) before .desk) x h,
+  );
   behind = λ file d fit. rw fit;
-  memory = λ file d count refused unfit. rw unfit (refl, refl, refl);
+  buffer = λ file d answers i. (
+    λ h k. rw (zero-add i) at (sets-at (answersOf file d) answers 0 i (omega arith) k),
+    λ h. sets-behind (answersOf file d) answers 0 i (omega arith),
+  );
+  memory = λ file d count refused answers unfit. rw unfit (refl, refl, refl);
   lines = printed-lines;
-  answers = λ d call. (small (answerTo d call), λ e. ap numberOf (unfit d e call));
-  stores = stored;
-  resets = cleared;
-  reset = λ d h. refused-call d reset h;
-  store = λ d address value h. refused-call d (store address value) h;
-  sample = λ d k raw line h. (refused-call d (sample k raw) h, sample-left d k raw line h);
-  fields = fields-left;
-  print = print-left;
+  line = numbered-line;
+  no-line = refl;
+  too-long = long-file;
+  prints = printed-there;
+  no-room = not-printed;
+  calls = called;
 }

@@ -1,5 +1,6 @@
 -- Demand 2, proved.
-use Prim.Native.Nat.{ℕ, _+_, _≤_}
+use Prim.Native.Nat.{ℕ, _+_, _≤_, _<_}
+use native.Mathlib.Omega.{arith}
 use mathlib.Core.Path.{_≡_, refl, sym, ap, _∙_}
 use mathlib.Core.List.{List, [], _∷_, _++_}
 use mathlib.Core.Bool.{Bool, true, false}
@@ -14,6 +15,7 @@ use Rattle.refusals.specs.Refusals.{numberOf, _⇒_, firstOf}
 use Rattle.refusals.specs.Refusals.Laws.{accepted-only, accepted-rest}
 use Rattle.table.specs.declared.reading.Reading.{Reading}
 use Rattle.table.specs.Words.{baseOf, blockAt}
+use Rattle.table.specs.Words.Laws.{block-at}
 use Rattle.table.specs.Reading.{readingOf}
 use Rattle.table.specs.Reading.Laws.{numbered, reading-local}
 use Rattle.carried.specs.declared.record.Carried.{Carried}
@@ -24,7 +26,7 @@ use Rattle.engine.specs.declared.stepping.Stepped.{Stepped}
 use Rattle.engine.specs.Sensing.{setpointOf, targetOf, sensedOf}
 use Rattle.engine.specs.Driving.{drivenOf}
 use Rattle.engine.specs.Writing.{statusWord, writtenOf}
-use Rattle.engine.specs.Writing.Laws.{written-length, written-other, written-block}
+use Rattle.engine.specs.Writing.Laws.{written-length, written-other, written-there, written-block}
 use Rattle.engine.specs.Steps.{stepOf}
 use Rattle.reader.specs.File.{recordsOf}
 use Rattle.desk.specs.Desk.{Desk, fittingOf, memoryCases, loopCases, leftBy, readingAt, stepAt, sampleDone, sampleAnswer, sampleLeft, lineOf}
@@ -34,7 +36,7 @@ use Rattle.session.specs.Session.{begun as started, callsOf, leftOf}
 use Rattle.session.specs.Session.Laws.{run-desk}
 use Rattle.kexbardi.specs.Interface.{lineLeft}
 use Rattle.claims.specs.Turns.{Made, one, file, Turn, found, madeLeft, behind, behindAll}
-use Rattle.claims.specs.Demand2.{Acceptable, Other, Agree, InRange, Demand2}
+use Rattle.claims.specs.Demand2.{Acceptable, Other, Done, Agree, InRange, Demand2}
 use Rattle.claims.proofs.Turns.{unfit-behind, record-found, record-behind}
 
 -- ---- when it is accepted
@@ -55,9 +57,13 @@ only-then d k raw z =
 
 -- ---- what a sample leaves
 
-exactly : (d : Desk) (k raw : ℕ) → numberOf (sampleAnswer d k raw) ≡ 0 → sampleLeft d k raw ≡ sampleDone d k raw
-unfolding sampleLeft
-exactly d k raw e = rw (accepted-only (sampleAnswer d k raw) e)
+exactly : (d : Desk) (k raw : ℕ) → numberOf (sampleAnswer d k raw) ≡ 0 → Done d (sampleLeft d k raw) k raw
+unfolding sampleLeft sampleDone
+exactly d k raw e =
+    let a = accepted-only (sampleAnswer d k raw) e in
+    let s = sampled d k raw a in
+    let w = written-there (d .words) (baseOf k) (stepAt d k raw .written) (omega (arith, s .memory .words, s .above, s .below)) in
+    rw a (record { word = w .word; setpoint = w .setpoint; pv = w .pv; bias = w .bias; output = w .output; status = w .status; numbers = own-numbers d k raw s })
 
 line-shown : (d : Desk) (k raw : ℕ) (line : List ℕ) → numberOf (sampleAnswer d k raw) ≡ 0 → lineLeft d k raw line ≡ lineOf (sampleLeft d k raw .words) k
 unfolding lineLeft
@@ -84,6 +90,13 @@ lengths-kept d k raw =
     (λ _. (written-length (d .words) (baseOf k) (stepAt d k raw .written), length-sets (d .numbers) (slotOf k) (numbersOf (stepAt d k raw .carried)))) (refl, refl)
 
 -- ---- two loops that agree
+
+-- two loops with the same 32 words show the same line
+line-block : (ws ws′ : List ℕ) (k k′ : ℕ) → blockAt ws (baseOf k) ≡ blockAt ws′ (baseOf k′) → lineOf ws k ≡ lineOf ws′ k′
+line-block ws ws′ k k′ e =
+    let at : (i : ℕ) → i < 32 → getD ws (baseOf k + i) 0 ≡ getD ws′ (baseOf k′ + i) 0
+    = λ i h. sym (block-at ws (baseOf k) i h) ∙ rw e (block-at ws′ (baseOf k′) i h) in
+    rw (at 2 (omega arith), at 3 (omega arith), at 5 (omega arith), at 6 (omega arith))
 
 -- a step does not look at the loop's number
 step-numbered : (k : ℕ) (r : Reading) (c : Carried) (raw : ℕ) → stepOf (numbered k r) c raw ≡ stepOf r c raw
@@ -129,11 +142,14 @@ module _ (d d′ : Desk) (k k′ raw : ℕ) (agree : Agree d d′ k k′) where
   left-same Accepted e = (block-same, numbers-same e)
   left-same (Refused why) e = (agree .words, agree .numbers)
 
-  alike : (sampleAnswer d k raw ≡ sampleAnswer d′ k′ raw)
-      × (blockAt (sampleLeft d k raw .words) (baseOf k) ≡ blockAt (sampleLeft d′ k′ raw .words) (baseOf k′))
+  words-alike : (blockAt (sampleLeft d k raw .words) (baseOf k) ≡ blockAt (sampleLeft d′ k′ raw .words) (baseOf k′))
       × (numbersAt (sampleLeft d k raw .numbers) (slotOf k) ≡ numbersAt (sampleLeft d′ k′ raw .numbers) (slotOf k′))
   unfolding sampleLeft
-  alike = let p = left-same (sampleAnswer d k raw) refl in rw (← answer-same) (refl, p .0, p .1)
+  words-alike = let p = left-same (sampleAnswer d k raw) refl in rw (← answer-same) (p .0, p .1)
+
+  line-alike : (line : List ℕ) → lineLeft d k raw line ≡ lineLeft d′ k′ raw line
+  unfolding lineLeft
+  line-alike line = rw (line-block (sampleLeft d k raw .words) (sampleLeft d′ k′ raw .words) k k′ (words-alike .0), answer-same)
 
 -- ---- the ranges
 
@@ -165,6 +181,8 @@ demand-2 = record {
   other-words = words-kept;
   other-records = records-kept;
   lengths = lengths-kept;
-  local = alike;
+  local = λ d d′ k k′ raw line agree.
+      let w = words-alike d d′ k k′ raw agree in
+      (answer-same d d′ k k′ raw agree, w .0, w .1, line-alike d d′ k k′ raw agree line);
   ranges = λ d ts k above below h. all-ranges k above below d ts h;
 }

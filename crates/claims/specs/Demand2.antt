@@ -9,9 +9,9 @@ use lib.ListN.{length, getD}
 use Rattle.refusals.specs.Refusals.{numberOf}
 use Rattle.table.specs.Words.{baseOf, blockAt}
 use Rattle.table.specs.Modes.{isCascade}
-use Rattle.carried.specs.Layout.{slotOf, outOfRange, numbersAt}
+use Rattle.carried.specs.Layout.{slotOf, outOfRange, numbersOf, numbersAt}
 use Rattle.judging.specs.Judging.{Passed}
-use Rattle.desk.specs.Desk.{Desk, fittingOf, readingAt, sampleAnswer, sampleLeft, sampleDone, lineOf}
+use Rattle.desk.specs.Desk.{Desk, fittingOf, readingAt, stepAt, sampleAnswer, sampleLeft, lineOf}
 use Rattle.kexbardi.specs.Interface.{lineLeft}
 use Rattle.claims.specs.Turns.{Turn, behindAll}
 
@@ -30,6 +30,16 @@ pub record Other (k i : ℕ) : Type 0 where
   pub bias : i ≡ baseOf k + 4 → ⊥
   pub output : i ≡ baseOf k + 5 → ⊥
   pub status : i ≡ baseOf k + 6 → ⊥
+
+-- e holds what the steps give for a sample of loop k on d: the loop's six words, and its record as numbers
+pub record Done (d e : Desk) (k raw : ℕ) : Type 0 where
+  pub word : getD (e .words) (baseOf k) 0 ≡ stepAt d k raw .written .word
+  pub setpoint : getD (e .words) (baseOf k + 2) 0 ≡ stepAt d k raw .written .setpoint
+  pub pv : getD (e .words) (baseOf k + 3) 0 ≡ stepAt d k raw .written .pv
+  pub bias : getD (e .words) (baseOf k + 4) 0 ≡ stepAt d k raw .written .bias
+  pub output : getD (e .words) (baseOf k + 5) 0 ≡ stepAt d k raw .written .output
+  pub status : getD (e .words) (baseOf k + 6) 0 ≡ stepAt d k raw .written .status
+  pub numbers : numbersAt (e .numbers) (slotOf k) ≡ numbersOf (stepAt d k raw .carried)
 
 -- loop k of one desk and loop k′ of another agree on what a sample depends on
 pub record Agree (d d′ : Desk) (k k′ : ℕ) : Type 0 where
@@ -51,7 +61,7 @@ pub record Demand2 : Type 0 where
   pub accepted : (d : Desk) (k raw : ℕ) → Acceptable d k raw → numberOf (sampleAnswer d k raw) ≡ 0
   pub only : (d : Desk) (k raw : ℕ) → numberOf (sampleAnswer d k raw) ≡ 0 → Acceptable d k raw
   -- the steps' definition, word for word and number for number; the line shows the words after it
-  pub exact : (d : Desk) (k raw : ℕ) → numberOf (sampleAnswer d k raw) ≡ 0 → sampleLeft d k raw ≡ sampleDone d k raw
+  pub exact : (d : Desk) (k raw : ℕ) → numberOf (sampleAnswer d k raw) ≡ 0 → Done d (sampleLeft d k raw) k raw
   pub line : (d : Desk) (k raw : ℕ) (line : List ℕ) → numberOf (sampleAnswer d k raw) ≡ 0 → lineLeft d k raw line ≡ lineOf (sampleLeft d k raw .words) k
   -- no other word, no other loop's record, and no length
   pub other-words : (d : Desk) (k raw i : ℕ) → Other k i → getD (sampleLeft d k raw .words) i 0 ≡ getD (d .words) i 0
@@ -59,10 +69,11 @@ pub record Demand2 : Type 0 where
       → numbersAt (sampleLeft d k raw .numbers) (slotOf j) ≡ numbersAt (d .numbers) (slotOf j)
   pub lengths : (d : Desk) (k raw : ℕ)
       → (length (sampleLeft d k raw .words) ≡ length (d .words)) × (length (sampleLeft d k raw .numbers) ≡ length (d .numbers))
-  -- two loops that agree answer alike, and leave the same words and the same record
-  pub local : (d d′ : Desk) (k k′ raw : ℕ) → Agree d d′ k k′
+  -- two loops that agree answer alike, and leave the same words, the same record and the same line
+  pub local : (d d′ : Desk) (k k′ raw : ℕ) (line : List ℕ) → Agree d d′ k k′
       → (sampleAnswer d k raw ≡ sampleAnswer d′ k′ raw)
       × (blockAt (sampleLeft d k raw .words) (baseOf k) ≡ blockAt (sampleLeft d′ k′ raw .words) (baseOf k′))
       × (numbersAt (sampleLeft d k raw .numbers) (slotOf k) ≡ numbersAt (sampleLeft d′ k′ raw .numbers) (slotOf k′))
+      × (lineLeft d k raw line ≡ lineLeft d′ k′ raw line)
   -- the ranges are never left
   pub ranges : (d : Desk) (ts : List Turn) (k : ℕ) → 1 ≤ k → k ≤ 16 → InRange k d → InRange k (behindAll d ts)

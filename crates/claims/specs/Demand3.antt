@@ -2,22 +2,25 @@
 -- inside the limits that the sample read. And where its loop has counted n samples since an entry, in position form, never in Manual nor with
 -- freeze, the word is as near to the exact output as half a count and (n + 1) units. The exact output, n and B are the plain loop's, which begins
 -- with the list and with every reset, and goes on through files.
-use Prim.Native.Nat.{ℕ, _≤_}
+use Prim.Native.Nat.{ℕ, _+_, _≤_, _<_}
 use mathlib.Core.Path.{_≡_}
-use mathlib.Core.List.{List, [], _∷_, _++_}
+use mathlib.Core.Bool.{true, false, _||_}
+use mathlib.Core.List.{List, _++_}
 use lib.IntN.{pos}
 use lib.ListN.{getD}
-use Prim.Native.Nat.{_+_}
-use Rattle.numbers.specs.Fractions.{whole, _≤ᶠ_}
+use Rattle.numbers.specs.Fractions.{over, whole, _+ᶠ_, _≤ᶠ_}
 use Rattle.refusals.specs.Refusals.{numberOf}
 use Rattle.reader.specs.File.{recordsOf}
+use Rattle.table.specs.declared.reading.Reading.{Reading}
 use Rattle.table.specs.Words.{baseOf}
+use Rattle.table.specs.Modes.{isManual}
 use Rattle.carried.specs.Layout.{recordAt}
-use Rattle.plain.specs.Plain.{Plain, begun, tolerance}
-use Rattle.desk.specs.Desk.{Desk}
+use Rattle.engine.specs.Sensing.{sensedOf}
+use Rattle.plain.specs.Plain.{Plain, begun, plainAfter, tolerance}
+use Rattle.desk.specs.Desk.{Desk, fittingOf}
 use Rattle.desk.specs.Lists.{Call, reset, store, sample, answerTo, deskAfter, deskBehind, fed, plainBehind, Accurate, Holds}
 use Rattle.session.specs.Session.{callsOf, leftOf}
-use Rattle.claims.specs.Turns.{Made, one, file, Turn, found, numberTo, behind, fedMade}
+use Rattle.claims.specs.Turns.{Made, one, file, Turn, found, numberTo, behindAll, fedMade, fedAll}
 
 -- of one direct call, q being the plain loop after it: a sample of loop k that is answered 0 is accurate
 abbrev pub Direct : ℕ → Desk → Plain → Call → Type 0
@@ -33,15 +36,24 @@ abbrev pub Good : ℕ → Plain → Desk → Made → Type 0
 Good k q d (one call) = Direct k d (fed k q d call) call
 Good k q d (file bytes) = numberTo d (file bytes) ≡ 0 → let calls = callsOf (recordsOf bytes) in Holds k q d calls × (leftOf bytes d ≡ deskBehind d calls)
 
--- of every turn of a list
-unfoldable pub All : ℕ → Plain → Desk → List Turn → Type 0
-All k q d [] = Unit {0}
-All k q d (t ∷ ts) = Good k q (found d t) (t .made) × All k (fedMade k q (found d t) (t .made)) (behind d t) ts
+-- n after an accepted sample: Manual, freeze and velocity form end the count, an entry begins it, and one that has begun goes on
+pub record Counted (q : Plain) (r : Reading) (raw : ℕ) : Type 0 where
+  pub ended : (isManual (r .mode) || r .settings .mode1 .freeze || r .settings .mode1 .velocity) ≡ true → plainAfter q r raw .n ≡ 0
+  pub begins : (isManual (r .mode) || r .settings .mode1 .freeze || r .settings .mode1 .velocity) ≡ false
+      → (sensedOf r (q .state) raw .entry ≡ true → plainAfter q r raw .n ≡ 1)
+      × (sensedOf r (q .state) raw .entry ≡ false → (q .n ≡ 0 → plainAfter q r raw .n ≡ 0) × (0 < q .n → plainAfter q r raw .n ≡ q .n + 1))
 
 pub record Demand3 : Type 0 where
-  pub accurate : (d : Desk) (ts : List Turn) (k : ℕ) → 1 ≤ k → k ≤ 16 → All k (begun (recordAt (d .numbers) k)) d ts
-  -- within one count for the first 131,071 samples
+  -- behind any turns, the next one is good
+  pub accurate : (d : Desk) (before : List Turn) (t : Turn) (k : ℕ) → 1 ≤ k → k ≤ 16
+      → Good k (fedAll k (begun (recordAt (d .numbers) k)) d before) (found (behindAll d before) t) (t .made)
+  pub counted : (q : Plain) (r : Reading) (raw : ℕ) → Counted q r raw
+  -- half a count and (n + 1)/262,144 of a count: within one count for the first 131,071 samples
+  pub tolerated : (n : ℕ) → tolerance n ≡ over (pos 1) 2 +ᶠ over (pos (n + 1)) 262144
   pub one-count : (n : ℕ) → n ≤ 131071 → tolerance n ≤ᶠ whole (pos 1)
-  -- calls one behind the other: the plain loop, and so n, runs on
-  pub append : (k : ℕ) (q : Plain) (d : Desk) (xs ys : List Call)
+  -- turns one behind the other, with files among them: the plain loop, and so n, runs on
+  pub append : (k : ℕ) (q : Plain) (d : Desk) (xs ys : List Turn) → fedAll k q d (xs ++ ys) ≡ fedAll k (fedAll k q d xs) (behindAll d xs) ys
+  pub through : (k : ℕ) (q : Plain) (d : Desk) (bytes : List ℕ) → fittingOf d ≡ true
+      → fedMade k q d (file bytes) ≡ plainBehind k q d (callsOf (recordsOf bytes))
+  pub calls : (k : ℕ) (q : Plain) (d : Desk) (xs ys : List Call)
       → plainBehind k q d (xs ++ ys) ≡ plainBehind k (plainBehind k q d xs) (deskBehind d xs) ys

@@ -1,5 +1,5 @@
 -- A C program's turns on a desk: it writes anything into the words, and then makes a call, perhaps with memory of the wrong length. It leaves the
--- numbers to the calls.
+-- numbers to the calls. The calls that only show something (`kexbardi_record`, `kexbardi_print`) change no desk, and are no turns.
 use Prim.Native.Nat.{ℕ}
 use mathlib.Core.Bool.{cond}
 use mathlib.Core.List.{List, [], _∷_, _++_}
@@ -49,3 +49,8 @@ behindAll d (t ∷ ts) = behindAll (behind d t) ts
 unfoldable pub fedMade : ℕ → Plain → Desk → Made → Plain
 fedMade k q d (one call) = fed k q d call
 fedMade k q d (file bytes) = cond (fittingOf d) (plainBehind k q d (callsOf (recordsOf bytes))) q
+
+-- and after a list of turns
+unfoldable pub fedAll : ℕ → Plain → Desk → List Turn → Plain
+fedAll k q d [] = q
+fedAll k q d (t ∷ ts) = fedAll k (fedMade k q (found d t) (t .made)) (behind d t) ts

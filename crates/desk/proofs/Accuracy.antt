@@ -15,7 +15,7 @@ use Rattle.table.specs.Reading.{readingOf}
 use Rattle.table.specs.Reading.Laws.{limit-low, limit-high}
 use Rattle.carried.specs.declared.record.State.{State}
 use Rattle.carried.specs.Layout.{recordAt}
-use Rattle.engine.specs.Writing.Laws.{written-output}
+use Rattle.engine.specs.Writing.Laws.{written-there}
 use Rattle.plain.specs.Plain.{Plain, plainAfter}
 use Rattle.plain.specs.Plain.Laws.{Tied, start-tied, sample-good}
 use Rattle.desk.specs.Desk.{Desk, resetLeft, storeLeft, sampleLeft, sampleDone, stepAt}
@@ -35,7 +35,7 @@ module _ (k : ℕ) (above : 1 ≤ k) where
       let c = recordAt (d .numbers) k in
       let good = sample-good (s .reading) (s .carried) q tied in
       let word : getD (sampleDone d k raw .words) (base + 5) 0 ≡ stepAt d k raw .written .output
-      = written-output (d .words) base (stepAt d k raw .written) (omega (arith, s .memory .words, s .above, s .below)) in
+      = written-there (d .words) base (stepAt d k raw .written) (omega (arith, s .memory .words, s .above, s .below)) .output in
       let Goal : State → Type 0
       = λ state. let q′ = plainAfter q (readingOf (d .words) k (state .mode)) raw in
       Accurate (getD (d .words) (base + 24) 0) (getD (d .words) (base + 25) 0) (getD (sampleDone d k raw .words) (base + 5) 0) q′

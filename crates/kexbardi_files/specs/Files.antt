@@ -8,6 +8,8 @@ use lib.Seq.{sets}
 use Rattle.refusals.specs.Refusals.{numberOfRefusal}
 use Rattle.session.specs.declared.running.Ended.{Ended}
 use Rattle.session.specs.declared.running.Ended.the-variants.{Counts, Stopped}
+use Rattle.desk.specs.Desk.{Desk}
+use Rattle.session.specs.Session.{answersOf}
 use Rattle.session.specs.Printed.{printedWithin}
 
 -- ---- a file carried out: the answer and the two counts
@@ -24,6 +26,10 @@ ended number count refused = record { number = number; count = count; refused = 
 abbrev pub endedBy : Ended → ℕ → ℕ → Ran
 endedBy (Stopped why) count refused = ended (numberOfRefusal why) count refused
 endedBy (Counts n m) count refused = ended 0 n m
+
+-- the buffer of the answers: from its start on, as far as there is room
+abbrev pub answersLeft : List ℕ → Desk → List ℕ → List ℕ
+answersLeft file d answers = sets answers 0 (answersOf file d)
 
 -- ---- a file printed: the answer, the buffer, and the length of the text
 

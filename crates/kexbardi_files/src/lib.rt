@@ -7,10 +7,9 @@ use refusals::number_of;
 use session::Ended;
 ghost use mathlib.Core.Path.{_≡_};
 ghost use lib.ListN.{length};
-ghost use lib.Seq.{sets};
 ghost use Rattle.desk.specs.Desk.{lent};
-ghost use Rattle.session.specs.Session.{endedOf, leftOf, answersOf};
-ghost use Rattle.kexbardi_files.specs.Files.{ended, endedBy, printed, printLeft};
+ghost use Rattle.session.specs.Session.{endedOf, leftOf};
+ghost use Rattle.kexbardi_files.specs.Files.{ended, endedBy, answersLeft, printed, printLeft};
 
 // A file of any length carried out. 5. Else the answer to each record goes into `answers` in order, as
 // far as there is room, and the counts of records and of refused ones into `count` and `refused`.
@@ -25,7 +24,7 @@ pub extern "C" fn kexbardi_run(
 ) -> u8
     ensures number { λ r. ⌜ ended r (now (count .exit)) (now (refused .exit)) ≡ endedBy (endedOf (now (file .entry)) (lent (now (words .entry)) (now (records .entry)))) (now (count .entry)) (now (refused .entry)) ⌝ }
     ensures left { λ _. ⌜ lent (now (words .exit)) (now (records .exit)) ≡ leftOf (now (file .entry)) (lent (now (words .entry)) (now (records .entry))) ⌝ }
-    ensures answers { λ _. ⌜ now (answers .exit) ≡ sets (now (answers .entry)) 0 (answersOf (now (file .entry)) (lent (now (words .entry)) (now (records .entry)))) ⌝ }
+    ensures answers { λ _. ⌜ now (answers .exit) ≡ answersLeft (now (file .entry)) (lent (now (words .entry)) (now (records .entry))) (now (answers .entry)) ⌝ }
 {
     let how = session::run(file, words, records, answers);
     match how {

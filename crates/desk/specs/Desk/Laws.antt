@@ -62,7 +62,7 @@ pub loop-there : (k : ℕ) → noLoop k ≡ false → (1 ≤ k) × (k ≤ 16)
 unfolding noLoop
 loop-there k e = let p = or-false (ltb k 1) (ltb 16 k) e in (ltb-false _ _ (p .0), ltb-false _ _ (p .1))
 
-there-loop : (k : ℕ) → 1 ≤ k → k ≤ 16 → noLoop k ≡ false
+pub there-loop : (k : ℕ) → 1 ≤ k → k ≤ 16 → noLoop k ≡ false
 unfolding noLoop
 there-loop k above below = rw (le-ltb k 1 above, le-ltb 16 k below)
 

@@ -1,8 +1,8 @@
--- The laws of what is written: which words change, the output word, and the loop's block by itself.
+-- The laws of what is written: which words change and to what, and the loop's block by itself.
 use Prim.Native.Nat.{ℕ, _+_, _≤_, _<_}
 use native.Mathlib.Omega.{arith}
 use native.Mathlib.Nat.{add-zero}
-use mathlib.Core.Path.{_≡_}
+use mathlib.Core.Path.{_≡_, _∙_}
 use mathlib.Core.Logic.{_≢_}
 use mathlib.Core.List.{List}
 use lib.ListN.{length, getD, set, length-set}
@@ -20,6 +20,18 @@ pub record Other (base i : ℕ) : Type 0 where
   pub output : i ≡ base + 5 → ⊥
   pub status : i ≡ base + 6 → ⊥
 
+-- the six words of the loop at base are those given
+pub record There (ws : List ℕ) (base : ℕ) (w : Written) : Type 0 where
+  pub word : getD ws base 0 ≡ w .word
+  pub setpoint : getD ws (base + 2) 0 ≡ w .setpoint
+  pub pv : getD ws (base + 3) 0 ≡ w .pv
+  pub bias : getD ws (base + 4) 0 ≡ w .bias
+  pub output : getD ws (base + 5) 0 ≡ w .output
+  pub status : getD ws (base + 6) 0 ≡ w .status
+
+below : (l : List ℕ) (i v j : ℕ) → j < i → getD (set l i v) j 0 ≡ getD l j 0
+below l i v j h = getD-set-other l i j v 0 (λ e. omega (arith, e))
+
 module _ (ws : List ℕ) (base : ℕ) (w : Written) where
   pub written-length : length (writtenTo ws base w) ≡ length ws
   unfolding writtenTo
@@ -36,13 +48,28 @@ module _ (ws : List ℕ) (base : ℕ) (w : Written) where
       let status : i ≢ base + 6 = o .status in
       simp getD-set-other
 
-  -- the output word
-  pub written-output : base + 32 ≤ length ws → getD (writtenTo ws base w) (base + 5) 0 ≡ w .output
+  -- each of the six holds what was given for it: the stores behind it are to higher words
+  pub written-there : base + 32 ≤ length ws → There (writtenTo ws base w) base w
   unfolding writtenTo
-  written-output h =
-      let status : base + 5 ≢ base + 6 = λ e. omega (arith, e) in
-      let before = set (set (set (set ws base (w .word)) (base + 2) (w .setpoint)) (base + 3) (w .pv)) (base + 4) (w .bias) in
-      rw getD-set-other (getD-set-same before (base + 5) (w .output) 0 (simp length-set (omega arith)))
+  written-there h =
+      let w0 = set ws base (w .word) in
+      let w2 = set w0 (base + 2) (w .setpoint) in
+      let w3 = set w2 (base + 3) (w .pv) in
+      let w4 = set w3 (base + 4) (w .bias) in
+      let w5 = set w4 (base + 5) (w .output) in
+      let p6 : (j : ℕ) → j < base + 6 → getD (set w5 (base + 6) (w .status)) j 0 ≡ getD w5 j 0 = below w5 (base + 6) (w .status) in
+      let p5 : (j : ℕ) → j < base + 5 → getD (set w5 (base + 6) (w .status)) j 0 ≡ getD w4 j 0 = λ j k. p6 j (omega arith) ∙ below w4 (base + 5) (w .output) j k in
+      let p4 : (j : ℕ) → j < base + 4 → getD (set w5 (base + 6) (w .status)) j 0 ≡ getD w3 j 0 = λ j k. p5 j (omega arith) ∙ below w3 (base + 4) (w .bias) j k in
+      let p3 : (j : ℕ) → j < base + 3 → getD (set w5 (base + 6) (w .status)) j 0 ≡ getD w2 j 0 = λ j k. p4 j (omega arith) ∙ below w2 (base + 3) (w .pv) j k in
+      let p2 : (j : ℕ) → j < base + 2 → getD (set w5 (base + 6) (w .status)) j 0 ≡ getD w0 j 0 = λ j k. p3 j (omega arith) ∙ below w0 (base + 2) (w .setpoint) j k in
+      record {
+        word = p2 base (omega arith) ∙ getD-set-same ws base (w .word) 0 (omega arith);
+        setpoint = p3 (base + 2) (omega arith) ∙ getD-set-same w0 (base + 2) (w .setpoint) 0 (simp length-set (omega arith));
+        pv = p4 (base + 3) (omega arith) ∙ getD-set-same w2 (base + 3) (w .pv) 0 (simp length-set (omega arith));
+        bias = p5 (base + 4) (omega arith) ∙ getD-set-same w3 (base + 4) (w .bias) 0 (simp length-set (omega arith));
+        output = p6 (base + 5) (omega arith) ∙ getD-set-same w4 (base + 5) (w .output) 0 (simp length-set (omega arith));
+        status = getD-set-same w5 (base + 6) (w .status) 0 (simp length-set (omega arith));
+      }
 
   -- the loop's 32 words, written by themselves
   pub written-block : blockAt (writtenTo ws base w) base ≡ writtenTo (blockAt ws base) 0 w

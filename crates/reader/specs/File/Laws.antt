@@ -15,18 +15,29 @@ use Rattle.reader.specs.declared.Step.{Step}
 use Rattle.reader.specs.File.{wordAt, noKind, wholeAt, recordAt}
 use Rattle.reader.specs.File.{positionsWithin, positionsFrom, recordsFrom, recordsOf, spansFrom, spansOf}
 
--- what holds of a cut record, and of a whole one whose bytes are all there, holds of the record at a position
+-- a record that the file cuts off, and one whose bytes are all there
+pub cut-at : (s : List ℕ) (at : ℕ) → length s < at + 2 + wordAt s at → recordAt s at ≡ record { item = Refused Cut; next = length s }
+unfolding recordAt
+cut-at s at h = go (ltb (length s - at) 2) refl
+  where
+    go : (b : Bool) → ltb (length s - at) 2 ≡ b → recordAt s at ≡ record { item = Refused Cut; next = length s }
+    go true e = rw e
+    go false e = rw (e, lt-ltb (length s - at - 2) (wordAt s at) (omega (arith, ltb-false (length s - at) 2 e)))
+
+pub whole-at : (s : List ℕ) (at : ℕ) → at + 2 + wordAt s at ≤ length s
+    → recordAt s at ≡ record { item = wholeAt s (at + 2) (wordAt s at); next = at + 2 + wordAt s at }
+unfolding recordAt
+whole-at s at h = rw (le-ltb (length s - at) 2 (omega arith), le-ltb (length s - at - 2) (wordAt s at) (omega arith))
+
+-- what holds of both holds of the record at a position
 cut-or-whole : (P : Step → Type 0) (s : List ℕ) (at : ℕ) → P (record { item = Refused Cut; next = length s })
     → (at + 2 + wordAt s at ≤ length s → P (record { item = wholeAt s (at + 2) (wordAt s at); next = at + 2 + wordAt s at }))
     → P (recordAt s at)
-unfolding recordAt
-cut-or-whole P s at cut whole = go (ltb (length s - at) 2) refl (ltb (length s - at - 2) (wordAt s at)) refl
+cut-or-whole P s at cut whole = go (ltb (length s) (at + 2 + wordAt s at)) refl
   where
-    go : (a : Bool) → ltb (length s - at) 2 ≡ a → (b : Bool) → ltb (length s - at - 2) (wordAt s at) ≡ b → P (recordAt s at)
-    go true e b f = rw e cut
-    go false e true f = rw (e, f) cut
-    go false e false f =
-        rw (e, f) (whole (omega (arith, ltb-false (length s - at) 2 e, ltb-false (length s - at - 2) (wordAt s at) f)))
+    go : (b : Bool) → ltb (length s) (at + 2 + wordAt s at) ≡ b → P (recordAt s at)
+    go true e = rw (cut-at s at (ltb-true _ _ e)) cut
+    go false e = let h = ltb-false (length s) (at + 2 + wordAt s at) e in rw (whole-at s at h) (whole h)
 
 -- a record ends behind its position and within the file; it takes two bytes at least, unless it ends the file
 pub next-bounds : (s : List ℕ) (at : ℕ) → at < length s
@@ -92,6 +103,12 @@ pub records-step : (s : List ℕ) (at : ℕ) → at < length s
     → recordsFrom s at ≡ recordAt s at .item ∷ recordsFrom s (recordAt s at .next)
 unfolding recordsFrom
 records-step s at h = rw (positions-step s at h)
+
+-- and so of their bytes
+pub spans-step : (s : List ℕ) (at : ℕ) → at < length s
+    → spansFrom s at ≡ slice at (recordAt s at .next) s ∷ spansFrom s (recordAt s at .next)
+unfolding spansFrom
+spans-step s at h = rw (positions-step s at h)
 
 -- each record takes two bytes at least, but for a last one
 count-from : (s : List ℕ) (at : ℕ) → 2 * length (recordsFrom s at) ≤ (length s - at) + 1

@@ -1,0 +1,179 @@
+-- What every direct call answers and leaves, proved.
+use Prim.Native.Nat.{ℕ, _+_, _%_, _≤_, _<_}
+use native.Mathlib.Omega.{arith}
+use mathlib.Core.Path.{_≡_, refl, sym, ap, _∙_, subst}
+use mathlib.Core.Bool.{Bool, true, false, _||_}
+use mathlib.Core.List.{List, [], _∷_, append-nil}
+use lib.Dec.{ltb, eqb}
+use lib.IntN.{ℤ, pos}
+use lib.ListN.{length, drop, set, replicate, length-take, length-drop, drop-of-length-le}
+use lib.Seq.{sets, sets-eq}
+use borrow.Author.Tests.{ne-eqb, eq-eqb, lt-ltb, le-ltb, ltb-true, ltb-false}
+use Rattle.refusals.specs.declared.Answer.{Answer}
+use Rattle.refusals.specs.declared.Answer.the-variants.{Accepted, Refused}
+use Rattle.refusals.specs.declared.Refusal.the-variants.{Setting, Above}
+use Rattle.refusals.specs.Refusals.{numberOf, _⇒_, firstOf}
+use Rattle.refusals.specs.Refusals.Laws.{in-table, accepted-only}
+use Rattle.table.specs.declared.reading.Reading.{Reading}
+use Rattle.table.specs.Words.{any}
+use Rattle.carried.specs.Layout.{fieldCount, numberCount, slotOf, numbersAt, outOfRange}
+use Rattle.judging.specs.Judging.{readingCases, Passed}
+use Rattle.desk.specs.Desk.{Desk, lent, fittingOf, noLoop, resetAnswer, resetLeft, engineWord, storeAnswer, storeLeft, readingAt, sampleAnswer, copiedBy, fieldsAnswer, fieldsLeft}
+use Rattle.desk.specs.Desk.Laws.{sound, there-loop, answer-ranged, reset-sound, reset-numbers}
+use Rattle.desk.specs.Lists.{reset, store, sample, answerTo, deskAfter}
+use Rattle.desk.specs.Lists.Laws.{refused-call, unfit}
+use Rattle.kexbardi.specs.Interface.{lineLeft}
+use Rattle.claims.specs.Calls.{Reserved, pv, bias, status, profile, Rows, Called}
+
+-- every answer is 0 or a number of the table
+pub small : (a : Answer) → numberOf a ≤ 9
+small Accepted = omega arith
+small (Refused why) = in-table why .1
+
+fitting : (d : Desk) → length (d .words) ≡ 1024 → length (d .numbers) ≡ numberCount → fittingOf d ≡ true
+unfolding fittingOf
+fitting d ws ns = rw (ws, ns)
+
+-- ---- stores
+
+-- an offset that no store reaches is one of the definition's, and the other way round
+module _ (address : ℕ) where
+  reserved : address < 512 → Reserved (address % 32) → engineWord address ≡ true
+  reserved low r = rw (lt-ltb address 512 low) (go r)
+    where
+      go : {i : ℕ} → Reserved i → any (eqb i 3 ∷ eqb i 4 ∷ eqb i 6 ∷ eqb i 29 ∷ []) ≡ true
+      go pv = refl
+      go bias = refl
+      go status = refl
+      go profile = refl
+
+  free : (address < 512 → Reserved (address % 32) → ⊥) → engineWord address ≡ false
+  free unkept = above (ltb address 512) refl
+    where
+      none : (i : ℕ) → (Reserved i → ⊥) → any (eqb i 3 ∷ eqb i 4 ∷ eqb i 6 ∷ eqb i 29 ∷ []) ≡ false
+      none i n =
+          rw (
+            ne-eqb i 3 (λ e. n (subst Reserved (sym e) pv)),
+            ne-eqb i 4 (λ e. n (subst Reserved (sym e) bias)),
+            ne-eqb i 6 (λ e. n (subst Reserved (sym e) status)),
+            ne-eqb i 29 (λ e. n (subst Reserved (sym e) profile)),
+          )
+
+      above : (b : Bool) → ltb address 512 ≡ b → engineWord address ≡ false
+      above true e = rw e (none (address % 32) (unkept (ltb-true address 512 e)))
+      above false e = rw e
+
+module _ (d : Desk) (address : ℕ) (fit : fittingOf d ≡ true) where
+  stored : (value : ℕ) → address ≤ 1023 → engineWord address ≡ false
+      → (numberOf (storeAnswer d address) ≡ 0) × (storeLeft d address value ≡ lent (set (d .words) address value) (d .numbers))
+  unfolding storeLeft storeAnswer
+  stored value low reach =
+      let a : storeAnswer d address ≡ Accepted = rw (fit, le-ltb 1023 address low, reach) in
+      (ap numberOf a, rw a)
+
+  beyond : 1023 < address → numberOf (storeAnswer d address) ≡ 6
+  unfolding storeAnswer
+  beyond h = rw (fit, lt-ltb 1023 address h)
+
+  kept : address < 512 → Reserved (address % 32) → numberOf (storeAnswer d address) ≡ 6
+  unfolding storeAnswer
+  kept low r = rw (fit, le-ltb 1023 address (omega arith), reserved address low r)
+
+-- ---- reset
+
+cleared : (d : Desk) → fittingOf d ≡ true
+    → (numberOf (resetAnswer d) ≡ 0) × (resetLeft d ≡ lent (replicate 1024 0) (replicate numberCount (pos 0)))
+unfolding resetAnswer
+cleared d fit = (rw fit, reset-sound d fit ∙ reset-numbers)
+
+-- ---- samples
+
+sample-left : (d : Desk) (k raw : ℕ) (line : List ℕ) → 0 < numberOf (sampleAnswer d k raw) → lineLeft d k raw line ≡ line
+unfolding lineLeft
+sample-left d k raw line h = rw (ne-eqb (numberOf (sampleAnswer d k raw)) 0 (λ e. omega arith))
+
+no-such-loop : (k : ℕ) → ((1 ≤ k) × (k ≤ 16) → ⊥) → noLoop k ≡ true
+unfolding noLoop
+no-such-loop k wrong = go (ltb k 1) refl (ltb 16 k) refl
+  where
+    go : (a : Bool) → ltb k 1 ≡ a → (b : Bool) → ltb 16 k ≡ b → (ltb k 1 || ltb 16 k) ≡ true
+    go true e b f = rw e
+    go false e true f = rw (e, f)
+    go false e false f = absurd (wrong (ltb-false k 1 e, ltb-false 16 k f))
+
+-- one of the groups of 8 holds
+one-of : (modes times limits setpoint above : Bool) → (modes ≡ false → times ≡ false → limits ≡ false → setpoint ≡ false → ⊥)
+    → numberOf (firstOf ((modes ⇒ Setting) ∷ (times ⇒ Setting) ∷ (limits ⇒ Setting) ∷ (setpoint ⇒ Setting) ∷ (above ⇒ Above) ∷ [])) ≡ 8
+one-of true times limits setpoint above some = refl
+one-of false true limits setpoint above some = refl
+one-of false false true setpoint above some = refl
+one-of false false false true above some = refl
+one-of false false false false above some = absurd (some refl refl refl refl)
+
+module _ (r : Reading) (raw : ℕ) where
+  digit : r .settings .baddigit ≡ true → numberOf (firstOf (readingCases r raw)) ≡ 7
+  digit e = rw e
+
+  setting : r .settings .baddigit ≡ false → (Passed r 0 → ⊥) → numberOf (firstOf (readingCases r raw)) ≡ 8
+  setting e some =
+      rw e (one-of _ _ _ _ (ltb (r .settings .mode2 .input .scale) raw)
+      (λ m t l s. some (record { digit = e; modes = m; times = t; limits = l; setpoint = s; above = le-ltb (r .settings .mode2 .input .scale) 0 (omega arith) })))
+
+  too-high : Passed r 0 → r .settings .mode2 .input .scale < raw → numberOf (firstOf (readingCases r raw)) ≡ 9
+  too-high p h = rw (p .digit, p .modes, p .times, p .limits, p .setpoint, lt-ltb (r .settings .mode2 .input .scale) raw h)
+
+module _ (d : Desk) (k raw : ℕ) (fit : fittingOf d ≡ true) where
+  no-loop : ((1 ≤ k) × (k ≤ 16) → ⊥) → numberOf (sampleAnswer d k raw) ≡ 4
+  unfolding sampleAnswer
+  no-loop wrong = rw (fit, no-such-loop k wrong)
+
+  sample-rows : Rows d k raw
+  sample-rows = record {
+    loop = no-loop;
+    carried = λ above below e. ap numberOf (answer-ranged d k raw fit above below) ∙ rw e;
+    reading = λ above below e.
+        let a : sampleAnswer d k raw ≡ firstOf (readingCases (readingAt d k) raw) = answer-ranged d k raw fit above below ∙ rw e in
+        rw a (digit (readingAt d k) raw, setting (readingAt d k) raw, too-high (readingAt d k) raw);
+  }
+
+-- ---- a record copied out
+
+module _ (ns : List ℤ) (k : ℕ) (copied : List ℤ) where
+  fields-left : 0 < numberOf (fieldsAnswer ns k) → fieldsLeft ns k copied ≡ copied
+  unfolding fieldsLeft
+  fields-left h = go (fieldsAnswer ns k) (numbersAt ns (slotOf k)) h
+    where
+      go : (a : Answer) (found : List ℤ) → 0 < numberOf a → copiedBy a found copied ≡ copied
+      go Accepted found p = absurd (omega arith)
+      go (Refused why) found p = refl
+
+  -- all of a buffer is written over
+  over : (found : List ℤ) → length found ≡ length copied → sets copied 0 found ≡ found
+  over found e =
+      let rest : drop (0 + length found) copied ≡ [] = drop-of-length-le copied {i = 0 + length found} (omega arith) in
+      sets-eq found copied 0 (omega arith) ∙ rw rest (append-nil found)
+
+  fields-copied : length ns ≡ numberCount → 1 ≤ k → k ≤ 16 → outOfRange (numbersAt ns (slotOf k)) ≡ false → length copied ≡ fieldCount
+      → (numberOf (fieldsAnswer ns k) ≡ 0) × (fieldsLeft ns k copied ≡ numbersAt ns (slotOf k))
+  unfolding fieldsAnswer fieldsLeft
+  fields-copied size above below range room =
+      let a : fieldsAnswer ns k ≡ Accepted = rw (eq-eqb (length ns) numberCount size, there-loop k above below, range) in
+      let whole : length (numbersAt ns (slotOf k)) ≡ length copied = simp (length-take, length-drop) (omega arith) in
+      (ap numberOf a, rw a (over (numbersAt ns (slotOf k)) whole))
+
+pub called : Called
+unfolding answerTo deskAfter
+called = record {
+  lengths = λ d. (fitting d, λ e. (sound d e .words, sound d e .numbers));
+  answers = λ d call. (small (answerTo d call), λ e. ap numberOf (unfit d e call));
+  zero = accepted-only;
+  rows = sample-rows;
+  stores = λ d address value fit low unkept. stored d address fit value low (free address unkept);
+  unstored = λ d address fit. (beyond d address fit, kept d address fit);
+  resets = cleared;
+  copies = fields-copied;
+  reset = λ d h. refused-call d reset h;
+  store = λ d address value h. refused-call d (store address value) h;
+  sample = λ d k raw line h. (refused-call d (sample k raw) h, sample-left d k raw line h);
+  fields = λ ns k copied h. (small (fieldsAnswer ns k), fields-left ns k copied h);
+}

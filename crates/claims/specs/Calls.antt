@@ -1,0 +1,59 @@
+-- What every direct call answers and leaves, on memory of any lengths.
+use Prim.Native.Nat.{ℕ, _%_, _≤_, _<_}
+use mathlib.Core.Path.{_≡_}
+use mathlib.Core.Bool.{true, false}
+use mathlib.Core.List.{List}
+use lib.IntN.{ℤ, pos}
+use lib.ListN.{length, set, replicate}
+use Rattle.refusals.specs.declared.Answer.{Answer}
+use Rattle.refusals.specs.declared.Answer.the-variants.{Accepted}
+use Rattle.refusals.specs.Refusals.{numberOf}
+use Rattle.carried.specs.Layout.{fieldCount, numberCount, slotOf, numbersAt, outOfRange}
+use Rattle.judging.specs.Judging.{Passed}
+use Rattle.desk.specs.Desk.{Desk, lent, fittingOf, resetAnswer, resetLeft, storeAnswer, storeLeft, readingAt, sampleAnswer, sampleLeft, fieldsAnswer, fieldsLeft}
+use Rattle.desk.specs.Lists.{Call, answerTo}
+use Rattle.kexbardi.specs.Interface.{lineLeft}
+
+-- the offsets of a loop that no store reaches
+pub data Reserved : ℕ → Type 0 where
+  pv : Reserved 3
+  bias : Reserved 4
+  status : Reserved 6
+  profile : Reserved 29
+
+-- the numbers of a sample's refusals on memory of the right lengths, each where no row before it holds
+pub record Rows (d : Desk) (k raw : ℕ) : Type 0 where
+  pub loop : ((1 ≤ k) × (k ≤ 16) → ⊥) → numberOf (sampleAnswer d k raw) ≡ 4
+  pub carried : 1 ≤ k → k ≤ 16 → outOfRange (numbersAt (d .numbers) (slotOf k)) ≡ true → numberOf (sampleAnswer d k raw) ≡ 5
+  pub reading : 1 ≤ k → k ≤ 16 → outOfRange (numbersAt (d .numbers) (slotOf k)) ≡ false → let r = readingAt d k in
+      let s = r .settings in
+      let scale = s .mode2 .input .scale in
+      (s .baddigit ≡ true → numberOf (sampleAnswer d k raw) ≡ 7)
+      × (s .baddigit ≡ false → (Passed r 0 → ⊥) → numberOf (sampleAnswer d k raw) ≡ 8)
+      × (Passed r 0 → scale < raw → numberOf (sampleAnswer d k raw) ≡ 9)
+
+pub record Called : Type 0 where
+  -- the lengths are 1,024 words and the records' numbers
+  pub lengths : (d : Desk) → (length (d .words) ≡ 1024 → length (d .numbers) ≡ numberCount → fittingOf d ≡ true)
+      × (fittingOf d ≡ true → (length (d .words) ≡ 1024) × (length (d .numbers) ≡ numberCount))
+  -- every answer is 0, which is an acceptance, or a number of the table; 5 on memory of wrong lengths; a sample's that of the first row that holds
+  pub answers : (d : Desk) (call : Call) → (numberOf (answerTo d call) ≤ 9) × (fittingOf d ≡ false → numberOf (answerTo d call) ≡ 5)
+  pub zero : (a : Answer) → numberOf a ≡ 0 → a ≡ Accepted
+  pub rows : (d : Desk) (k raw : ℕ) → fittingOf d ≡ true → Rows d k raw
+  -- a store of an address that may be stored is carried out, and changes that word; any other is refused with 6
+  pub stores : (d : Desk) (address value : ℕ) → fittingOf d ≡ true → address ≤ 1023 → (address < 512 → Reserved (address % 32) → ⊥)
+      → (numberOf (storeAnswer d address) ≡ 0) × (storeLeft d address value ≡ lent (set (d .words) address value) (d .numbers))
+  pub unstored : (d : Desk) (address : ℕ) → fittingOf d ≡ true
+      → (1023 < address → numberOf (storeAnswer d address) ≡ 6) × (address < 512 → Reserved (address % 32) → numberOf (storeAnswer d address) ≡ 6)
+  -- a reset leaves zeros
+  pub resets : (d : Desk) → fittingOf d ≡ true
+      → (numberOf (resetAnswer d) ≡ 0) × (resetLeft d ≡ lent (replicate 1024 0) (replicate numberCount (pos 0)))
+  -- a record in range is copied out
+  pub copies : (ns : List ℤ) (k : ℕ) (copied : List ℤ) → length ns ≡ numberCount → 1 ≤ k → k ≤ 16 → outOfRange (numbersAt ns (slotOf k)) ≡ false
+      → length copied ≡ fieldCount → (numberOf (fieldsAnswer ns k) ≡ 0) × (fieldsLeft ns k copied ≡ numbersAt ns (slotOf k))
+  -- one that is refused leaves all that was lent to it
+  pub reset : (d : Desk) → 0 < numberOf (resetAnswer d) → resetLeft d ≡ d
+  pub store : (d : Desk) (address value : ℕ) → 0 < numberOf (storeAnswer d address) → storeLeft d address value ≡ d
+  pub sample : (d : Desk) (k raw : ℕ) (line : List ℕ) → 0 < numberOf (sampleAnswer d k raw)
+      → (sampleLeft d k raw ≡ d) × (lineLeft d k raw line ≡ line)
+  pub fields : (ns : List ℤ) (k : ℕ) (copied : List ℤ) → 0 < numberOf (fieldsAnswer ns k) → (numberOf (fieldsAnswer ns k) ≤ 9) × (fieldsLeft ns k copied ≡ copied)
