@@ -187,5 +187,6 @@ demand-1 = record {
   too-long = long-file;
   prints = printed-there;
   no-room = not-printed;
+  program = printed-whole;
   calls = called;
 }

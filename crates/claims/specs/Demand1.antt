@@ -15,7 +15,7 @@ use Rattle.reader.specs.File.{wordAt, recordAt, recordsFrom, recordsOf, spansFr
 use Rattle.desk.specs.Desk.{Desk, fittingOf, resetDesk}
 use Rattle.lines.specs.Lines.{lineText, lastText}
 use Rattle.session.specs.Session.{numberFor, leftFor, shownFor, begun, runOf, refusalsIn, endedOf, leftOf, answersOf}
-use Rattle.session.specs.Printed.{bodyOf, printedOf, roomFor}
+use Rattle.session.specs.Printed.{bodyOf, printedOf, roomFor, printedWithin}
 use Rattle.kexbardi_files.specs.Files.{ended, endedBy, answersLeft, printed, printLeft}
 use Rattle.claims.specs.Calls.{Called}
 
@@ -84,5 +84,7 @@ pub record Demand1 : Type 0 where
   pub prints : (file out : List ℕ) (size : ℕ) → roomFor file ≤ length out
       → printLeft file out size ≡ printed 0 (sets out 0 (printedOf file)) (length (printedOf file))
   pub no-room : (file out : List ℕ) (size : ℕ) → length out < roomFor file → printLeft file out size ≡ printed 5 out size
+  -- which the program always has
+  pub program : (file : List ℕ) → printedWithin 655460 file ≡ printedOf file
   -- ---- direct calls
   pub calls : Called
