@@ -4,6 +4,7 @@ use crate::record::Carried;
 use crate::record::Past;
 use crate::record::State;
 use control::Drive;
+use table::LOOPS;
 use table::Mode;
 ghost use mathlib.Core.Path.{_≡_};
 ghost use mathlib.Core.Bool.{false};
@@ -15,7 +16,7 @@ ghost use Rattle.carried.specs.Layout.{modeNumber, flag, numbersOf, mode
 
 pub const FIELDS: usize = 8; // numbers of a record
 
-pub const NUMBERS: usize = 16 * FIELDS; // numbers of the buffer
+pub const NUMBERS: usize = LOOPS as usize * FIELDS; // numbers of the buffer
 
 // The place of each number in a record, as in the header.
 const MODE: usize = 0;

@@ -8,6 +8,7 @@ mod sampling;
 mod showing;
 mod storing;
 
+pub use carried::FIELDS;
 pub use carried::NUMBERS;
 pub use memory::fitting;
 pub use resetting::reset;

@@ -4,7 +4,7 @@
 // Every function works on memory that the caller lends and keeps nothing between calls. It answers 0,
 // or the number of the refusal; a refusal leaves all lent memory as it was. A `&[T]` is a pointer and
 // then a length for a C caller, a `&mut [T; N]` a pointer.
-use carried::FIELDS;
+use desk::FIELDS;
 use refusals::number_of;
 ghost use mathlib.Core.Path.{_≡_};
 ghost use Rattle.refusals.specs.Refusals.{numberOf};

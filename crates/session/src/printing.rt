@@ -17,6 +17,10 @@ ghost use Rattle.session.specs.Printed.{linesOf, tooLong, withRoom, prin
 
 const LONGEST: usize = 65536; // bytes of a file
 
+const INPUT: usize = LONGEST + 1; // a longer file is known by one byte more
+
+const OUTPUT: usize = 10 * LONGEST + 100; // what the longest prints
+
 // Every record of a file in turn, with its line, and the last line: from the start of `out`. Answers
 // how many bytes these are: at most ten for each byte of the file, and 100.
 fn transcript(file: &[u8], words: &mut [u16], numbers: &mut [i64], out: &mut [u8]) -> usize
@@ -71,16 +75,16 @@ pub fn drill(input: &[u8], out: &mut [u8]) -> usize
     transcript(input, &mut words, &mut numbers, out)
 }
 
-// Room for an input of 65,536 bytes and one more, by which a longer one is known.
-pub fn input_buffer() -> [u8; 65537]
+// Room for an input.
+pub fn input_buffer() -> [u8; INPUT]
     ensures { λ r. ⌜ (r ≡ replicate 65537 0) × (65537 ≡ length r) ⌝ }
 {
-    [0; 65537]
+    [0; INPUT]
 }
 
 // Room for what any input prints.
-pub fn output_buffer() -> [u8; 655460]
+pub fn output_buffer() -> [u8; OUTPUT]
     ensures { λ r. ⌜ (r ≡ replicate 655460 0) × (655460 ≡ length r) ⌝ }
 {
-    [0; 655460]
+    [0; OUTPUT]
 }
