@@ -1,4 +1,5 @@
--- Refusals 7, 8 and 9 computed of the definitions: each setting at its edge, and several conditions at once.
+-- Refusals 7, 8 and 9 computed of the definitions: each number of a setting on both sides of its edge, several conditions at once, and the rows'
+-- own examples.
 use Prim.Native.Nat.{ℕ}
 use mathlib.Core.Path.{_≡_, refl}
 use mathlib.Core.List.{List, [], _∷_, map}
@@ -32,7 +33,9 @@ cases =
     ∷ case (λ ws. ws) 4096 9
     ∷ case (word 8 0x000A) 0 7
     ∷ case (λ ws. word 8 0x000A (word 7 4 ws)) 0 7
-    ∷ case (λ ws. word 9 0 ws) 4096 8
+    ∷ case (word 8 0x0009) 0 0
+    ∷ case (word 9 0) 4096 8
+    ∷ case (word 9 1) 0 0
     ∷ case (word 7 0x0004) 0 8
     ∷ case (word 7 0x0005) 0 0
     ∷ case (word 24 4095) 0 0
@@ -47,13 +50,19 @@ cases =
     ∷ case (word 1 2) 32767 0
     ∷ case (word 1 514) 65535 0
     ∷ case (word 0 8192) 0 8
+    ∷ case (λ ws. word 0 4096 (word 18 1 ws)) 0 0
     ∷ case (λ ws. word 0 8192 (word 18 200 ws)) 0 0
     ∷ case (λ ws. word 0 4096 (word 18 201 ws)) 0 8
     ∷ case (word 0 16384) 0 0
+    ∷ case (word 2 4095) 0 0
     ∷ case (word 2 4096) 0 8
     ∷ case (λ ws. word 0 4 (word 2 4096 (word 26 40 ws))) 0 0
+    ∷ case (λ ws. word 0 4 (word 26 40 (word 40 4095 ws))) 0 0
     ∷ case (λ ws. word 0 4 (word 26 40 (word 40 4096 ws))) 0 8
+    ∷ case (λ ws. word 0 4 (word 26 1023 ws)) 0 0
     ∷ case (λ ws. word 0 4 (word 26 1024 ws)) 0 8
+    ∷ case (λ _. replicate 64 0) 0 8
+    ∷ case (λ _. word 8 0x000A (replicate 64 0)) 0 7
     ∷ []
 
 pub answer : Case → ℕ
