@@ -17,13 +17,13 @@ use Rattle.refusals.specs.Refusals.Laws.{in-table, accepted-only}
 use Rattle.table.specs.declared.reading.Reading.{Reading}
 use Rattle.table.specs.Words.{any}
 use Rattle.carried.specs.Layout.{fieldCount, numberCount, slotOf, numbersAt, outOfRange}
-use Rattle.judging.specs.Judging.{readingCases, Passed}
+use Rattle.judging.specs.Judging.{readingCases}
 use Rattle.desk.specs.Desk.{Desk, lent, fittingOf, noLoop, resetAnswer, resetLeft, engineWord, storeAnswer, storeLeft, readingAt, sampleAnswer, copiedBy, fieldsAnswer, fieldsLeft}
 use Rattle.desk.specs.Desk.Laws.{sound, there-loop, answer-ranged, reset-sound, reset-numbers}
 use Rattle.desk.specs.Lists.{reset, store, sample, answerTo, deskAfter}
 use Rattle.desk.specs.Lists.Laws.{refused-call, unfit}
 use Rattle.kexbardi.specs.Interface.{lineLeft}
-use Rattle.claims.specs.Calls.{Reserved, pv, bias, status, profile, Rows, Called}
+use Rattle.claims.specs.Calls.{Reserved, pv, bias, status, profile, Settled, Rows, Called}
 
 -- every answer is 0 or a number of the table
 pub small : (a : Answer) → numberOf a ≤ 9
@@ -114,12 +114,12 @@ module _ (r : Reading) (raw : ℕ) where
   digit : r .settings .baddigit ≡ true → numberOf (firstOf (readingCases r raw)) ≡ 7
   digit e = rw e
 
-  setting : r .settings .baddigit ≡ false → (Passed r 0 → ⊥) → numberOf (firstOf (readingCases r raw)) ≡ 8
+  setting : r .settings .baddigit ≡ false → (Settled r → ⊥) → numberOf (firstOf (readingCases r raw)) ≡ 8
   setting e some =
       rw e (one-of _ _ _ _ (ltb (r .settings .mode2 .input .scale) raw)
-      (λ m t l s. some (record { digit = e; modes = m; times = t; limits = l; setpoint = s; above = le-ltb (r .settings .mode2 .input .scale) 0 (omega arith) })))
+      (λ m t l s. some (record { digit = e; modes = m; times = t; limits = l; setpoint = s })))
 
-  too-high : Passed r 0 → r .settings .mode2 .input .scale < raw → numberOf (firstOf (readingCases r raw)) ≡ 9
+  too-high : Settled r → r .settings .mode2 .input .scale < raw → numberOf (firstOf (readingCases r raw)) ≡ 9
   too-high p h = rw (p .digit, p .modes, p .times, p .limits, p .setpoint, lt-ltb (r .settings .mode2 .input .scale) raw h)
 
 module _ (d : Desk) (k raw : ℕ) (fit : fittingOf d ≡ true) where
@@ -161,6 +161,16 @@ module _ (ns : List ℤ) (k : ℕ) (copied : List ℤ) where
       let whole : length (numbersAt ns (slotOf k)) ≡ length copied = simp (length-take, length-drop) (omega arith) in
       (ap numberOf a, rw a (over (numbersAt ns (slotOf k)) whole))
 
+fields-refused : (ns : List ℤ) (k : ℕ) → ((length ns ≡ numberCount → ⊥) → numberOf (fieldsAnswer ns k) ≡ 5)
+    × (length ns ≡ numberCount → ((1 ≤ k) × (k ≤ 16) → ⊥) → numberOf (fieldsAnswer ns k) ≡ 4)
+    × (length ns ≡ numberCount → 1 ≤ k → k ≤ 16 → outOfRange (numbersAt ns (slotOf k)) ≡ true → numberOf (fieldsAnswer ns k) ≡ 5)
+unfolding fieldsAnswer
+fields-refused ns k = (
+  λ ne. rw (ne-eqb (length ns) numberCount ne),
+  λ e wrong. rw (eq-eqb (length ns) numberCount e, no-such-loop k wrong),
+  λ e above below out. rw (eq-eqb (length ns) numberCount e, there-loop k above below, out),
+)
+
 pub called : Called
 unfolding answerTo deskAfter
 called = record {
@@ -175,5 +185,6 @@ called = record {
   reset = λ d h. refused-call d reset h;
   store = λ d address value h. refused-call d (store address value) h;
   sample = λ d k raw line h. (refused-call d (sample k raw) h, sample-left d k raw line h);
-  fields = λ ns k copied h. (small (fieldsAnswer ns k), fields-left ns k copied h);
+  uncopied = fields-refused;
+  fields = fields-left;
 }

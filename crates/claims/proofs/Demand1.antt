@@ -22,6 +22,7 @@ use Rattle.session.specs.Printed.{linesOf, bodyOf, tooLong, printedOf, roomFor,
 use Rattle.kexbardi_files.specs.Files.{printed, printLeft}
 use Rattle.claims.specs.Demand1.{Whole, Demand1}
 use Rattle.claims.proofs.Calls.{small, called}
+use Rattle.claims.proofs.Names.{names}
 
 -- ---- the answers of a file
 
@@ -189,4 +190,5 @@ demand-1 = record {
   no-room = not-printed;
   program = printed-whole;
   calls = called;
+  names = names;
 }

@@ -7,7 +7,7 @@ use mathlib.Core.Bool.{Bool, true, false}
 use lib.IntN.{ℤ}
 use lib.ListN.{length, getD}
 use lib.Seq.{length-sets}
-use borrow.Author.Tests.{eq-eqb}
+use borrow.Author.Tests.{eq-eqb, le-ltb, ltb-false}
 use Rattle.refusals.specs.declared.Answer.{Answer}
 use Rattle.refusals.specs.declared.Answer.the-variants.{Accepted, Refused}
 use Rattle.refusals.specs.declared.Refusal.the-variants.{Record}
@@ -20,7 +20,7 @@ use Rattle.table.specs.Reading.{readingOf}
 use Rattle.table.specs.Reading.Laws.{numbered, reading-local}
 use Rattle.carried.specs.declared.record.Carried.{Carried}
 use Rattle.carried.specs.Layout.{slotOf, outOfRange, recordFrom, numbersOf, numbersAt, recordAt}
-use Rattle.judging.specs.Judging.{readingCases}
+use Rattle.judging.specs.Judging.{readingCases, Passed}
 use Rattle.judging.specs.Judging.Laws.{passed, passing}
 use Rattle.engine.specs.declared.stepping.Stepped.{Stepped}
 use Rattle.engine.specs.Sensing.{setpointOf, targetOf, sensedOf}
@@ -43,7 +43,11 @@ use Rattle.claims.proofs.Turns.{unfit-behind, record-found, record-behi
 
 acceptable : (d : Desk) (k raw : ℕ) → Acceptable d k raw → numberOf (sampleAnswer d k raw) ≡ 0
 acceptable d k raw a =
-    let e : sampleAnswer d k raw ≡ Accepted = answer-ranged d k raw (a .memory) (a .loop .0) (a .loop .1) ∙ rw (a .carried) (passing (readingAt d k) raw (a .reading)) in
+    let r = a .reading in
+    let above = le-ltb (readingAt d k .settings .mode2 .input .scale) raw (a .below) in
+    let p : Passed (readingAt d k) raw
+    = record { digit = r .digit; modes = r .modes; times = r .times; limits = r .limits; setpoint = r .setpoint; above = above } in
+    let e : sampleAnswer d k raw ≡ Accepted = answer-ranged d k raw (a .memory) (a .loop .0) (a .loop .1) ∙ rw (a .carried) (passing (readingAt d k) raw p) in
     ap numberOf e
 
 only-then : (d : Desk) (k raw : ℕ) → numberOf (sampleAnswer d k raw) ≡ 0 → Acceptable d k raw
@@ -53,7 +57,14 @@ only-then d k raw z =
     let p = accepted-rest (memoryCases d) (loopCases (d .numbers) k ++ readingCases (readingAt d k) raw) e in
     let q = accepted-rest (loopCases (d .numbers) k) (readingCases (readingAt d k) raw) (p .1) in
     let loop = known-loop (d .numbers) k (q .0) in
-    record { memory = fits d (p .0); loop = (loop .above, loop .below); carried = loop .range; reading = passed (readingAt d k) raw (q .1) }
+    let r = passed (readingAt d k) raw (q .1) in
+    record {
+      memory = fits d (p .0);
+      loop = (loop .above, loop .below);
+      carried = loop .range;
+      reading = record { digit = r .digit; modes = r .modes; times = r .times; limits = r .limits; setpoint = r .setpoint };
+      below = ltb-false _ _ (r .above);
+    }
 
 -- ---- what a sample leaves
 

@@ -8,8 +8,10 @@ use lib.ListN.{length, set, replicate}
 use Rattle.refusals.specs.declared.Answer.{Answer}
 use Rattle.refusals.specs.declared.Answer.the-variants.{Accepted}
 use Rattle.refusals.specs.Refusals.{numberOf}
+use Rattle.table.specs.declared.reading.Reading.{Reading}
+use Rattle.table.specs.Modes.{isCascade}
 use Rattle.carried.specs.Layout.{fieldCount, numberCount, slotOf, numbersAt, outOfRange}
-use Rattle.judging.specs.Judging.{Passed}
+use Rattle.judging.specs.Judging.{badModes, badTimes, badLimits, badSetpoint}
 use Rattle.desk.specs.Desk.{Desk, lent, fittingOf, resetAnswer, resetLeft, storeAnswer, storeLeft, readingAt, sampleAnswer, sampleLeft, fieldsAnswer, fieldsLeft}
 use Rattle.desk.specs.Lists.{Call, answerTo}
 use Rattle.kexbardi.specs.Interface.{lineLeft}
@@ -21,16 +23,22 @@ pub data Reserved : ℕ → Type 0 where
   status : Reserved 6
   profile : Reserved 29
 
+-- what a sample reads passes row 7 and each group of row 8
+pub record Settled (r : Reading) : Type 0 where
+  pub digit : r .settings .baddigit ≡ false
+  pub modes : badModes (r .settings .mode1) (r .settings .mode2 .unused) (r .settings .alarms .hysteresis) ≡ false
+  pub times : badTimes (r .settings .tuning) ≡ false
+  pub limits : badLimits (r .settings .limits) (r .settings .mode2 .output .scale) ≡ false
+  pub setpoint : badSetpoint (isCascade (r .mode)) (r .settings .mode2 .input .scale) (r .settings .stored .setpoint) (r .settings .pointer) (r .remote) ≡ false
+
 -- the numbers of a sample's refusals on memory of the right lengths, each where no row before it holds
 pub record Rows (d : Desk) (k raw : ℕ) : Type 0 where
   pub loop : ((1 ≤ k) × (k ≤ 16) → ⊥) → numberOf (sampleAnswer d k raw) ≡ 4
   pub carried : 1 ≤ k → k ≤ 16 → outOfRange (numbersAt (d .numbers) (slotOf k)) ≡ true → numberOf (sampleAnswer d k raw) ≡ 5
   pub reading : 1 ≤ k → k ≤ 16 → outOfRange (numbersAt (d .numbers) (slotOf k)) ≡ false → let r = readingAt d k in
-      let s = r .settings in
-      let scale = s .mode2 .input .scale in
-      (s .baddigit ≡ true → numberOf (sampleAnswer d k raw) ≡ 7)
-      × (s .baddigit ≡ false → (Passed r 0 → ⊥) → numberOf (sampleAnswer d k raw) ≡ 8)
-      × (Passed r 0 → scale < raw → numberOf (sampleAnswer d k raw) ≡ 9)
+      (r .settings .baddigit ≡ true → numberOf (sampleAnswer d k raw) ≡ 7)
+      × (r .settings .baddigit ≡ false → (Settled r → ⊥) → numberOf (sampleAnswer d k raw) ≡ 8)
+      × (Settled r → r .settings .mode2 .input .scale < raw → numberOf (sampleAnswer d k raw) ≡ 9)
 
 pub record Called : Type 0 where
   -- the lengths are 1,024 words and the records' numbers
@@ -48,12 +56,15 @@ pub record Called : Type 0 where
   -- a reset leaves zeros
   pub resets : (d : Desk) → fittingOf d ≡ true
       → (numberOf (resetAnswer d) ≡ 0) × (resetLeft d ≡ lent (replicate 1024 0) (replicate numberCount (pos 0)))
-  -- a record in range is copied out
+  -- a record in range is copied out; of wrong lengths, no such loop and a record out of range the answer is 5, 4 and 5
   pub copies : (ns : List ℤ) (k : ℕ) (copied : List ℤ) → length ns ≡ numberCount → 1 ≤ k → k ≤ 16 → outOfRange (numbersAt ns (slotOf k)) ≡ false
       → length copied ≡ fieldCount → (numberOf (fieldsAnswer ns k) ≡ 0) × (fieldsLeft ns k copied ≡ numbersAt ns (slotOf k))
+  pub uncopied : (ns : List ℤ) (k : ℕ) → ((length ns ≡ numberCount → ⊥) → numberOf (fieldsAnswer ns k) ≡ 5)
+      × (length ns ≡ numberCount → ((1 ≤ k) × (k ≤ 16) → ⊥) → numberOf (fieldsAnswer ns k) ≡ 4)
+      × (length ns ≡ numberCount → 1 ≤ k → k ≤ 16 → outOfRange (numbersAt ns (slotOf k)) ≡ true → numberOf (fieldsAnswer ns k) ≡ 5)
   -- one that is refused leaves all that was lent to it
   pub reset : (d : Desk) → 0 < numberOf (resetAnswer d) → resetLeft d ≡ d
   pub store : (d : Desk) (address value : ℕ) → 0 < numberOf (storeAnswer d address) → storeLeft d address value ≡ d
   pub sample : (d : Desk) (k raw : ℕ) (line : List ℕ) → 0 < numberOf (sampleAnswer d k raw)
       → (sampleLeft d k raw ≡ d) × (lineLeft d k raw line ≡ line)
-  pub fields : (ns : List ℤ) (k : ℕ) (copied : List ℤ) → 0 < numberOf (fieldsAnswer ns k) → (numberOf (fieldsAnswer ns k) ≤ 9) × (fieldsLeft ns k copied ≡ copied)
+  pub fields : (ns : List ℤ) (k : ℕ) (copied : List ℤ) → 0 < numberOf (fieldsAnswer ns k) → fieldsLeft ns k copied ≡ copied

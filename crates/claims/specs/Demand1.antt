@@ -18,6 +18,7 @@ use Rattle.session.specs.Session.{numberFor, leftFor, shownFor, begun, runOf, r
 use Rattle.session.specs.Printed.{bodyOf, printedOf, roomFor, printedWithin}
 use Rattle.kexbardi_files.specs.Files.{ended, endedBy, answersLeft, printed, printLeft}
 use Rattle.claims.specs.Calls.{Called}
+use Rattle.claims.specs.Names.{Names}
 
 -- what a record is whose n bytes stand whole behind its length, with the kind at `at`
 pub record Whole (file : List ℕ) (at n kind : ℕ) (item : Record) : Type 0 where
@@ -84,7 +85,8 @@ pub record Demand1 : Type 0 where
   pub prints : (file out : List ℕ) (size : ℕ) → roomFor file ≤ length out
       → printLeft file out size ≡ printed 0 (sets out 0 (printedOf file)) (length (printedOf file))
   pub no-room : (file out : List ℕ) (size : ℕ) → length out < roomFor file → printLeft file out size ≡ printed 5 out size
-  -- which the program always has
+  -- the program's buffer has 655,460 bytes (`session::output_buffer`): always enough
   pub program : (file : List ℕ) → printedWithin 655460 file ≡ printedOf file
-  -- ---- direct calls
+  -- ---- direct calls, and what the names stand for
   pub calls : Called
+  pub names : Names

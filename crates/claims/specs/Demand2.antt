@@ -10,17 +10,18 @@ use Rattle.refusals.specs.Refusals.{numberOf}
 use Rattle.table.specs.Words.{baseOf, blockAt}
 use Rattle.table.specs.Modes.{isCascade}
 use Rattle.carried.specs.Layout.{slotOf, outOfRange, numbersOf, numbersAt}
-use Rattle.judging.specs.Judging.{Passed}
 use Rattle.desk.specs.Desk.{Desk, fittingOf, readingAt, stepAt, sampleAnswer, sampleLeft, lineOf}
 use Rattle.kexbardi.specs.Interface.{lineLeft}
 use Rattle.claims.specs.Turns.{Turn, behindAll}
+use Rattle.claims.specs.Calls.{Settled}
 
 -- no refusal holds: the memory has its lengths, there is such a loop, its record is in range, and what is read passes 7, 8 and 9
 pub record Acceptable (d : Desk) (k raw : ℕ) : Type 0 where
   pub memory : fittingOf d ≡ true
   pub loop : (1 ≤ k) × (k ≤ 16)
   pub carried : outOfRange (numbersAt (d .numbers) (slotOf k)) ≡ false
-  pub reading : Passed (readingAt d k) raw
+  pub reading : Settled (readingAt d k)
+  pub below : raw ≤ readingAt d k .settings .mode2 .input .scale
 
 -- the address i is none of the six words that a sample of loop k writes: 0, 2, 3, 4, 5 and 6
 pub record Other (k i : ℕ) : Type 0 where

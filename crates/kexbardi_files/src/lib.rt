@@ -6,6 +6,7 @@ use refusals::MEMORY;
 use refusals::number_of;
 use session::Ended;
 ghost use mathlib.Core.Path.{_≡_};
+ghost use Prim.Native.Nat.{_≤_};
 ghost use lib.ListN.{length};
 ghost use Rattle.desk.specs.Desk.{lent};
 ghost use Rattle.session.specs.Session.{endedOf, leftOf};
@@ -40,13 +41,14 @@ pub extern "C" fn kexbardi_run(
 // What the program `drill` prints of a file, from the start of `out`. 5 where `out` has less room than
 // ten bytes for each byte of the file, and 100 (nine bytes for a file that is too long).
 #[no_mangle]
-pub extern "C" fn kexbardi_print(file: &[u8], out: &mut [u8], length: &mut usize) -> u8
-    ensures { λ r. ⌜ printed r (now (out .exit)) (now (length .exit)) ≡ printLeft (now (file .entry)) (now (out .entry)) (now (length .entry)) ⌝ }
+pub extern "C" fn kexbardi_print(file: &[u8], out: &mut [u8], size: &mut usize) -> u8
+    ensures text { λ r. ⌜ printed r (now (out .exit)) (now (size .exit)) ≡ printLeft (now (file .entry)) (now (out .entry)) (now (size .entry)) ⌝ }
+    ensures within { λ r. ⌜ (r ≡ 0 → now (size .exit) ≤ length (now (out .exit))) ⌝ }
 {
     let n = session::drill(file, out);
     if n == 0 {
         return MEMORY;
     }
-    *length = n;
+    *size = n;
     0
 }

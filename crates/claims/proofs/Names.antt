@@ -1,0 +1,83 @@
+-- What the names in the demands stand for, proved: most by the definitions themselves.
+use Prim.Native.Nat.{ℕ}
+use mathlib.Core.Path.{_≡_, refl}
+use mathlib.Core.Bool.{false}
+use lib.Dec.{eqb}
+use lib.ListN.{length}
+use borrow.Author.Tests.{eq-eqb, ne-eqb, lt-ltb, le-ltb}
+use Rattle.refusals.specs.declared.Answer.{Answer}
+use Rattle.refusals.specs.declared.Answer.the-variants.{Accepted, Refused}
+use Rattle.carried.specs.Layout.Laws.{read-back, rows-in, in-rows}
+use Rattle.plain.specs.Plain.{Plain}
+use Rattle.desk.specs.Desk.{Desk}
+use Rattle.desk.specs.Desk.Laws.{reset-numbers}
+use Rattle.desk.specs.Lists.{store, sample, answerTo, deskAfter, deskBehind, fedBy, fed, plainBehind}
+use Rattle.session.specs.Session.{runOf, callsOf}
+use Rattle.claims.specs.Turns.{behindAll, fedAll}
+use Rattle.claims.specs.Names.{Places, Calls, Beside, Names}
+
+places : Places
+places = record {
+  word = λ file at. refl;
+  base = λ k. refl;
+  block = λ ws at. refl;
+  counts = (refl, refl);
+  slot = λ k. refl;
+  numbers = λ ns at. refl;
+  carried = λ ns k. refl;
+  back = read-back;
+  ranges = λ ns. (rows-in ns, in-rows ns);
+}
+
+calls : (d : Desk) → Calls d
+unfolding answerTo deskAfter deskBehind runOf
+calls d = record {
+  resets = (refl, refl);
+  stores = λ address value. (refl, refl);
+  samples = λ k raw. (refl, refl);
+  none = refl;
+  more = λ call calls. refl;
+  stored = λ address value. (refl, refl);
+  sampled = λ k raw. (refl, refl);
+  unread = λ why. refl;
+  start = refl;
+}
+
+module _ (k : ℕ) (q : Plain) (d : Desk) where
+  -- a store moves nothing, whatever its answer; nor does a sample of another loop
+  of-store : (a : Answer) (address value : ℕ) → fedBy k q d a (store address value) ≡ q
+  of-store Accepted address value = refl
+  of-store (Refused why) address value = refl
+
+  of-other : (a : Answer) (j raw : ℕ) → eqb j k ≡ false → fedBy k q d a (sample j raw) ≡ q
+  of-other Accepted j raw e = rw e
+  of-other (Refused why) j raw e = refl
+
+  beside : Beside k q d
+  unfolding fed plainBehind fedAll behindAll deskAfter
+  beside = record {
+    refused = λ call why e. rw e;
+    own = λ raw e. rw (e, eq-eqb k k refl);
+    other = λ j raw ne. of-other (answerTo d (sample j raw)) j raw (ne-eqb j k ne);
+    stored = λ address value. of-store (answerTo d (store address value)) address value;
+    anew = λ e. rw e;
+    none = refl;
+    more = λ call calls. refl;
+    no-turn = (refl, refl);
+    turn = λ t ts. (refl, refl);
+  }
+
+pub names : Names
+unfolding callsOf
+names = record {
+  places = places;
+  calls = calls;
+  listed = λ xs. (refl, λ why. refl, λ address value. refl, λ k raw. refl);
+  beside = beside;
+  reads = λ d k. refl;
+  steps = λ d k raw. refl;
+  line = λ ws k. refl;
+  shown = λ ws k raw. refl;
+  fresh = reset-numbers;
+  room = λ file. (λ h. rw (le-ltb 65536 (length file) h), λ h. rw (lt-ltb 65536 (length file) h));
+}

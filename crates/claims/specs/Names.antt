@@ -1,0 +1,83 @@
+-- What the names in the demands stand for, an equation each, so that no definition between them and the rest can change unnoticed. Left to be
+-- read where they stand: the steps (`stepOf`), what a sample reads (`readingOf`), the groups of row 8, a record as numbers (`numbersOf`), the
+-- plain loop's sample (`plainAfter`), and the text of a line.
+use Prim.Native.Nat.{ℕ, _+_, _-_, _*_, _≤_, _<_}
+use mathlib.Core.Path.{_≡_}
+use mathlib.Core.Bool.{false}
+use mathlib.Core.List.{List, [], _∷_}
+use lib.IntN.{ℤ, pos}
+use lib.ListN.{length, getD, take, drop, replicate}
+use Rattle.refusals.specs.declared.Refusal.{Refusal}
+use Rattle.refusals.specs.declared.Answer.the-variants.{Accepted}
+use Rattle.refusals.specs.declared.Answer.the-variants.{Refused as No}
+use Rattle.refusals.specs.Refusals.{numberOf}
+use Rattle.reader.specs.declared.Record.{Record}
+use Rattle.reader.specs.declared.Record.the-variants.{Store, Sample, Refused}
+use Rattle.reader.specs.File.{wordAt}
+use Rattle.table.specs.Words.{baseOf, blockAt}
+use Rattle.table.specs.Reading.{readingOf}
+use Rattle.carried.specs.declared.record.Carried.{Carried}
+use Rattle.carried.specs.Layout.{fieldCount, numberCount, slotOf, outOfRange, numbersOf, recordFrom, numbersAt, recordAt}
+use Rattle.carried.specs.Layout.Laws.{Rows}
+use Rattle.engine.specs.Steps.{stepOf}
+use Rattle.plain.specs.Plain.{Plain, begun, plainAfter}
+use Rattle.desk.specs.Desk.{Desk, lent, resetDesk, resetAnswer, resetLeft, storeAnswer, storeLeft, readingAt, stepAt, sampleAnswer, sampleLeft, lineOf}
+use Rattle.desk.specs.Lists.{Call, reset, store, sample, answerTo, deskAfter, deskBehind, fed, plainBehind}
+use Rattle.session.specs.Session.{numberFor, leftFor, shownFor, runOf, callsOf}
+use Rattle.session.specs.Session.{begun as started}
+use Rattle.session.specs.Printed.{roomFor}
+use Rattle.claims.specs.Turns.{Turn, found, behind, behindAll, fedMade, fedAll}
+
+-- places: of a word in a file, of a loop's words and of its record
+pub record Places : Type 0 where
+  pub word : (file : List ℕ) (at : ℕ) → wordAt file at ≡ getD file at 0 + 256 * getD file (at + 1) 0
+  pub base : (k : ℕ) → baseOf k ≡ 32 * (k - 1)
+  pub block : (ws : List ℕ) (at : ℕ) → blockAt ws at ≡ take 32 (drop at ws)
+  pub counts : (fieldCount ≡ 8) × (numberCount ≡ 128)
+  pub slot : (k : ℕ) → slotOf k ≡ fieldCount * (k - 1)
+  pub numbers : (ns : List ℤ) (at : ℕ) → numbersAt ns at ≡ take fieldCount (drop at ns)
+  -- a record is read back as it was written, and is in range where each number stands in its row
+  pub carried : (ns : List ℤ) (k : ℕ) → recordAt ns k ≡ recordFrom (numbersAt ns (slotOf k))
+  pub back : (c : Carried) → recordFrom (numbersOf c) ≡ c
+  pub ranges : (ns : List ℤ) → (outOfRange ns ≡ false → Rows ns) × (Rows ns → outOfRange ns ≡ false)
+
+-- calls, and a file's records as calls
+pub record Calls (d : Desk) : Type 0 where
+  pub resets : (answerTo d reset ≡ resetAnswer d) × (deskAfter d reset ≡ resetLeft d)
+  pub stores : (address value : ℕ) → (answerTo d (store address value) ≡ storeAnswer d address) × (deskAfter d (store address value) ≡ storeLeft d address value)
+  pub samples : (k raw : ℕ) → (answerTo d (sample k raw) ≡ sampleAnswer d k raw) × (deskAfter d (sample k raw) ≡ sampleLeft d k raw)
+  pub none : deskBehind d [] ≡ d
+  pub more : (call : Call) (calls : List Call) → deskBehind d (call ∷ calls) ≡ deskBehind (deskAfter d call) calls
+  pub stored : (address value : ℕ) → (numberFor d (Store address value) ≡ numberOf (storeAnswer d address)) × (leftFor d (Store address value) ≡ storeLeft d address value)
+  pub sampled : (k raw : ℕ) → (numberFor d (Sample k raw) ≡ numberOf (sampleAnswer d k raw)) × (leftFor d (Sample k raw) ≡ sampleLeft d k raw)
+  pub unread : (why : Refusal) → leftFor d (Refused why) ≡ d
+  pub start : runOf (started d) [] .desk ≡ d
+
+-- the plain loop of loop k beside them
+pub record Beside (k : ℕ) (q : Plain) (d : Desk) : Type 0 where
+  pub refused : (call : Call) (why : Refusal) → answerTo d call ≡ No why → fed k q d call ≡ q
+  pub own : (raw : ℕ) → answerTo d (sample k raw) ≡ Accepted → fed k q d (sample k raw) ≡ plainAfter q (readingOf (d .words) k (q .state .mode)) raw
+  pub other : (j raw : ℕ) → (j ≡ k → ⊥) → fed k q d (sample j raw) ≡ q
+  pub stored : (address value : ℕ) → fed k q d (store address value) ≡ q
+  pub anew : answerTo d reset ≡ Accepted → fed k q d reset ≡ begun (recordAt (resetLeft d .numbers) k)
+  pub none : plainBehind k q d [] ≡ q
+  pub more : (call : Call) (calls : List Call) → plainBehind k q d (call ∷ calls) ≡ plainBehind k (fed k q d call) (deskAfter d call) calls
+  pub no-turn : (fedAll k q d [] ≡ q) × (behindAll d [] ≡ d)
+  pub turn : (t : Turn) (ts : List Turn) → (fedAll k q d (t ∷ ts) ≡ fedAll k (fedMade k q (found d t) (t .made)) (behind d t) ts)
+      × (behindAll d (t ∷ ts) ≡ behindAll (behind d t) ts)
+
+pub record Names : Type 0 where
+  pub places : Places
+  pub calls : (d : Desk) → Calls d
+  pub listed : (xs : List Record) → (callsOf [] ≡ []) × ((why : Refusal) → callsOf (Refused why ∷ xs) ≡ callsOf xs)
+      × ((address value : ℕ) → callsOf (Store address value ∷ xs) ≡ store address value ∷ callsOf xs)
+      × ((k raw : ℕ) → callsOf (Sample k raw ∷ xs) ≡ sample k raw ∷ callsOf xs)
+  pub beside : (k : ℕ) (q : Plain) (d : Desk) → Beside k q d
+  -- a sample: what it reads, what it comes to, and what is shown of it
+  pub reads : (d : Desk) (k : ℕ) → readingAt d k ≡ readingOf (d .words) k (recordAt (d .numbers) k .state .mode)
+  pub steps : (d : Desk) (k raw : ℕ) → stepAt d k raw ≡ stepOf (readingAt d k) (recordAt (d .numbers) k) raw
+  pub line : (ws : List ℕ) (k : ℕ) → let at : ℕ → ℕ = λ i. getD ws (baseOf k + i) 0 in lineOf ws k ≡ at 2 ∷ at 3 ∷ at 5 ∷ at 6 ∷ []
+  pub shown : (ws : List ℕ) (k raw : ℕ) → shownFor ws (Sample k raw) ≡ lineOf ws k
+  -- the desk at reset; the room that a print asks for
+  pub fresh : resetDesk ≡ lent (replicate 1024 0) (replicate numberCount (pos 0))
+  pub room : (file : List ℕ) → (length file ≤ 65536 → roomFor file ≡ 10 * length file + 100) × (65536 < length file → roomFor file ≡ 9)
