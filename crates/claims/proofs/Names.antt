@@ -14,9 +14,9 @@ use Rattle.desk.specs.Desk.Laws.{reset-numbers}
 use Rattle.desk.specs.Lists.{store, sample, answerTo, deskAfter, deskBehind, fedBy, fed, plainBehind}
 use Rattle.session.specs.Session.{runOf, callsOf}
 use Rattle.claims.specs.Turns.{behindAll, fedAll}
-use Rattle.claims.specs.Names.{Places, Calls, Beside, Names}
+use Rattle.claims.specs.Names.{OfPlaces, OfCalls, OfPlain, Names}
 
-places : Places
+places : OfPlaces
 places = record {
   word = λ file at. refl;
   base = λ k. refl;
@@ -29,7 +29,7 @@ places = record {
   ranges = λ ns. (rows-in ns, in-rows ns);
 }
 
-calls : (d : Desk) → Calls d
+calls : (d : Desk) → OfCalls d
 unfolding answerTo deskAfter deskBehind runOf
 calls d = record {
   resets = (refl, refl);
@@ -53,7 +53,7 @@ module _ (k : ℕ) (q : Plain) (d : Desk) where
   of-other Accepted j raw e = rw e
   of-other (Refused why) j raw e = refl
 
-  beside : Beside k q d
+  beside : OfPlain k q d
   unfolding fed plainBehind fedAll behindAll deskAfter
   beside = record {
     refused = λ call why e. rw e;

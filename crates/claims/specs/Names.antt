@@ -29,7 +29,7 @@ use Rattle.session.specs.Printed.{roomFor}
 use Rattle.claims.specs.Turns.{Turn, found, behind, behindAll, fedMade, fedAll}
 
 -- places: of a word in a file, of a loop's words and of its record
-pub record Places : Type 0 where
+pub record OfPlaces : Type 0 where
   pub word : (file : List ℕ) (at : ℕ) → wordAt file at ≡ getD file at 0 + 256 * getD file (at + 1) 0
   pub base : (k : ℕ) → baseOf k ≡ 32 * (k - 1)
   pub block : (ws : List ℕ) (at : ℕ) → blockAt ws at ≡ take 32 (drop at ws)
@@ -42,7 +42,7 @@ pub record Places : Type 0 where
   pub ranges : (ns : List ℤ) → (outOfRange ns ≡ false → Rows ns) × (Rows ns → outOfRange ns ≡ false)
 
 -- calls, and a file's records as calls
-pub record Calls (d : Desk) : Type 0 where
+pub record OfCalls (d : Desk) : Type 0 where
   pub resets : (answerTo d reset ≡ resetAnswer d) × (deskAfter d reset ≡ resetLeft d)
   pub stores : (address value : ℕ) → (answerTo d (store address value) ≡ storeAnswer d address) × (deskAfter d (store address value) ≡ storeLeft d address value)
   pub samples : (k raw : ℕ) → (answerTo d (sample k raw) ≡ sampleAnswer d k raw) × (deskAfter d (sample k raw) ≡ sampleLeft d k raw)
@@ -54,7 +54,7 @@ pub record Calls (d : Desk) : Type 0 where
   pub start : runOf (started d) [] .desk ≡ d
 
 -- the plain loop of loop k beside them
-pub record Beside (k : ℕ) (q : Plain) (d : Desk) : Type 0 where
+pub record OfPlain (k : ℕ) (q : Plain) (d : Desk) : Type 0 where
   pub refused : (call : Call) (why : Refusal) → answerTo d call ≡ No why → fed k q d call ≡ q
   pub own : (raw : ℕ) → answerTo d (sample k raw) ≡ Accepted → fed k q d (sample k raw) ≡ plainAfter q (readingOf (d .words) k (q .state .mode)) raw
   pub other : (j raw : ℕ) → (j ≡ k → ⊥) → fed k q d (sample j raw) ≡ q
@@ -67,12 +67,12 @@ pub record Beside (k : ℕ) (q : Plain) (d : Desk) : Type 0 where
       × (behindAll d (t ∷ ts) ≡ behindAll (behind d t) ts)
 
 pub record Names : Type 0 where
-  pub places : Places
-  pub calls : (d : Desk) → Calls d
+  pub places : OfPlaces
+  pub calls : (d : Desk) → OfCalls d
   pub listed : (xs : List Record) → (callsOf [] ≡ []) × ((why : Refusal) → callsOf (Refused why ∷ xs) ≡ callsOf xs)
       × ((address value : ℕ) → callsOf (Store address value ∷ xs) ≡ store address value ∷ callsOf xs)
       × ((k raw : ℕ) → callsOf (Sample k raw ∷ xs) ≡ sample k raw ∷ callsOf xs)
-  pub beside : (k : ℕ) (q : Plain) (d : Desk) → Beside k q d
+  pub beside : (k : ℕ) (q : Plain) (d : Desk) → OfPlain k q d
   -- a sample: what it reads, what it comes to, and what is shown of it
   pub reads : (d : Desk) (k : ℕ) → readingAt d k ≡ readingOf (d .words) k (recordAt (d .numbers) k .state .mode)
   pub steps : (d : Desk) (k raw : ℕ) → stepAt d k raw ≡ stepOf (readingAt d k) (recordAt (d .numbers) k) raw
