@@ -10,11 +10,11 @@ sub-result c = search needs
 
 returns : tie.Need-returns
 unfolding apart
-returns c = simp (lt-ltb _ _ (c .if1 .taken))
+returns c = rw (lt-ltb _ _ (c .if1 .taken))
 
 returns-2 : tie.Need-returns-2
 unfolding apart
-returns-2 c = simp (le-ltb _ _ (c .if1 .left))
+returns-2 c = rw (le-ltb _ _ (c .if1 .left))
 
 pub distance-spec : {M : Type 1} → statement M
 distance-spec = tie.close (tie.spec sub-result returns returns-2)

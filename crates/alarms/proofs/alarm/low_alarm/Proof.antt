@@ -11,7 +11,7 @@ add-result : tie.Need-add-result
 add-result c = search needs
 
 returns : tie.Need-returns
-returns c = simp (c .margin .ensures .value, held)
+returns c = rw (c .margin .ensures .value, held)
 
 pub low-alarm-spec : {M : Type 1} → statement M
 low-alarm-spec = tie.close (tie.spec margin-requires add-result returns)

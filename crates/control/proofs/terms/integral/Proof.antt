@@ -14,7 +14,7 @@ use Rattle.control.proofs.terms.integral.Tie as tie
 
 returns : tie.Need-returns
 unfolding exactI roundTo over halfAway halfUp
-returns c = simp (eq-eqb _ _ (c .if1 .taken))
+returns c = rw (eq-eqb _ _ (c .if1 .taken))
 
 product : (s : tie.Start) → s .args .c * s .args .period ≤ 9999 * 9999
 product s = settings-high (search needs) (search needs)

@@ -12,7 +12,7 @@ use Rattle.engine.proofs.driving.moved.Tie as tie
 
 returns : tie.Need-returns
 unfolding movedOf
-returns c = simp (c .if1 .taken)
+returns c = rw (c .if1 .taken)
 
 inputs-for-requires : tie.Need-inputs-for-requires
 inputs-for-requires c κs = search needs

@@ -6,11 +6,11 @@ use Rattle.engine.proofs.driving.past_for.Tie as tie
 
 returns : tie.Need-returns
 unfolding pastOf
-returns c = simp (c .if1 .taken, back (c .before .fits .error))
+returns c = rw (c .if1 .taken, back (c .before .fits .error))
 
 returns-2 : tie.Need-returns-2
 unfolding pastOf
-returns-2 c = simp (c .if1 .left)
+returns-2 c = rw (c .if1 .left)
 
 pub past-for-spec : {M : Type 1} → statement M
 past-for-spec = tie.close (tie.spec returns returns-2)

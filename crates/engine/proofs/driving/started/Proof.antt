@@ -10,11 +10,11 @@ units-requires c κs = search needs
 
 returns : tie.Need-returns
 unfolding startOf
-returns c = simp (got (c .units .result) (c .units .ok)) (simp (c .units .ensures, c .before .if1 .taken))
+returns c = rw (got (c .units .result) (c .units .ok)) (simp (c .units .ensures, c .before .if1 .taken))
 
 returns-2 : tie.Need-returns-2
 unfolding startOf
-returns-2 c = simp (c .if1 .left)
+returns-2 c = rw (c .if1 .left)
 
 pub started-spec : {M : Type 1} → statement M
 started-spec = tie.close (tie.spec units-requires returns returns-2)

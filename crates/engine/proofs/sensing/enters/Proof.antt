@@ -12,7 +12,7 @@ is-manual-requires-2 c κs = search needs
 
 returns : tie.Need-returns
 unfolding entering
-returns c = simp (c .before .is-manual2 .ensures, c .before .before .is-manual .ensures)
+returns c = rw (c .before .is-manual2 .ensures, c .before .before .is-manual .ensures)
 
 pub enters-spec : {M : Type 1} → statement M
 enters-spec = tie.close (tie.spec is-manual-requires is-manual-requires-2 returns)

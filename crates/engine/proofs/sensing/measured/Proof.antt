@@ -16,11 +16,11 @@ root-requires c κs = search needs
 
 returns : tie.Need-returns
 unfolding pvOf
-returns c = simp (c .root .ensures, c .before .if1 .taken)
+returns c = rw (c .root .ensures, c .before .if1 .taken)
 
 returns-2 : tie.Need-returns-2
 unfolding pvOf
-returns-2 c = simp (c .if1 .left)
+returns-2 c = rw (c .if1 .left)
 
 pub measured-spec : {M : Type 1} → statement M
 measured-spec = tie.close (tie.spec mul-root root-requires returns returns-2)

@@ -10,11 +10,11 @@ is-cascade-requires c κs = search needs
 
 returns : tie.Need-returns
 unfolding setpointOf
-returns c = simp (sym (c .before .is-cascade .ensures) ∙ c .if1 .taken)
+returns c = rw (sym (c .before .is-cascade .ensures) ∙ c .if1 .taken)
 
 returns-2 : tie.Need-returns-2
 unfolding setpointOf
-returns-2 c = simp (sym (c .before .is-cascade .ensures) ∙ c .if1 .left)
+returns-2 c = rw (sym (c .before .is-cascade .ensures) ∙ c .if1 .left)
 
 pub own-setpoint-spec : {M : Type 1} → statement M
 own-setpoint-spec = tie.close (tie.spec is-cascade-requires returns returns-2)

@@ -46,7 +46,7 @@ nearest-count-requires c κs = simp (got (c .clamp .result) (c .clamp .ok)) (wit
 
 returns : tie.Need-returns
 unfolding biasWord
-returns c = simp (c .if1 .taken)
+returns c = rw (c .if1 .taken)
 
 returns-2 : tie.Need-returns-2
 unfolding biasWord limit start

@@ -11,7 +11,7 @@ nearest-count-requires c κs = search needs
 
 returns : tie.Need-returns
 unfolding outputWord
-returns c = simp (c .if1 .taken)
+returns c = rw (c .if1 .taken)
 
 returns-2 : tie.Need-returns-2
 unfolding outputWord

@@ -69,7 +69,7 @@ same-length c = search needs
 
 returns : tie.Need-returns
 unfolding writtenTo
-returns c = simp (c .base-of .ensures, add-zero)
+returns c = rw (c .base-of .ensures, add-zero)
 
 pub write-words-spec : {M : Type 1} → statement M
 write-words-spec =

@@ -30,7 +30,10 @@ bad-digit-requires-4 c κs = search needs
 
 returns : tie.Need-returns
 unfolding badDigits
-returns c = cc
+returns c =
+    let b3 = c .before .before in
+    let b2 = b3 .before .before in
+    rw (b2 .before .before .bad-digit .ensures, b2 .bad-digit2 .ensures, b3 .bad-digit3 .ensures, c .bad-digit4 .ensures)
 
 pub bad-digits-spec : {M : Type 1} → statement M
 bad-digits-spec =

@@ -12,7 +12,7 @@ unused-bits-requires c κs = search needs
 
 returns : tie.Need-returns
 unfolding mode2Of
-returns c = cc
+returns c = rw (c .before .new .ensures, c .unused-bits .ensures)
 
 pub read-mode2-spec : {M : Type 1} → statement M
 read-mode2-spec = tie.close (tie.spec new-requires unused-bits-requires returns)

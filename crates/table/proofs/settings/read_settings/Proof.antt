@@ -42,7 +42,9 @@ read-alarm-limits-requires c κs = search needs
 
 returns : tie.Need-returns
 unfolding settingsOf
-returns c = cc
+returns c =
+    let m = c .before .before .before in
+    rw (m .before .before .read-stored .ensures, m .before .read-mode1 .ensures, m .read-mode2 .ensures, c .before .before .bad-digits .ensures, c .before .read-tuning .ensures, c .read-alarm-limits .ensures)
 
 pub read-settings-spec : {M : Type 1} → statement M
 read-settings-spec =

@@ -30,7 +30,10 @@ decimal-requires-4 c κs = search needs
 
 returns : tie.Need-returns
 unfolding tuningOf
-returns c = cc
+returns c =
+    let b3 = c .before .before in
+    let b2 = b3 .before .before in
+    rw (b2 .before .before .decimal .ensures, b2 .decimal2 .ensures, b3 .decimal3 .ensures, c .decimal4 .ensures)
 
 pub read-tuning-spec : {M : Type 1} → statement M
 read-tuning-spec =

@@ -3,13 +3,13 @@ use Rattle.table.proofs.format.Format.new.Statement.{statement}
 use Rattle.table.proofs.format.Format.new.Tie as tie
 
 returns : tie.Need-returns
-returns c = simp (c .if1 .taken)
+returns c = rw (c .if1 .taken)
 
 returns-2 : tie.Need-returns-2
-returns-2 c = simp (c .before .if1 .left, c .if2 .taken)
+returns-2 c = rw (c .before .if1 .left, c .if2 .taken)
 
 returns-3 : tie.Need-returns-3
-returns-3 c = simp (c .before .if1 .left, c .if2 .left)
+returns-3 c = rw (c .before .if1 .left, c .if2 .left)
 
 pub new-spec : {M : Type 1} → statement M
 new-spec = tie.close (tie.spec returns returns-2 returns-3)
