@@ -1,12 +1,23 @@
-// Reads a drill file from standard input and prints what `session::drill` writes of it: nothing else
-// is printed.
-use libc::STDIN_FILENO;
-use libc::STDOUT_FILENO;
+// The program `drill`: carries out a drill file and prints what `session::drill` writes of it.
+//
+// The language has no exit status. So what cannot be read or written is told in one line on standard
+// error, and after a read that failed nothing is printed.
+mod argument;
+mod input;
+mod output;
+
+use libc::STDERR_FILENO;
 
 fn main() {
-    let mut input = session::input_buffer();
-    let n = io::read_full(STDIN_FILENO, &mut input);
-    let mut out = session::output_buffer();
-    let r = session::drill(&input[..n], &mut out);
-    io::write_all(STDOUT_FILENO, &out[..r]);
+    let words = os::arg_count(); // the program's own name among them
+    if words < 2 {
+        input::of_standard_input();
+    } else if words == 2 {
+        argument::of_argument();
+    } else {
+        streams::write_whole(
+            STDERR_FILENO,
+            b"drill: more than one file is named, and none was read\n",
+        );
+    }
 }

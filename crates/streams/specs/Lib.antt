@@ -1,0 +1,2 @@
+-- What a call of `read` or `write` came to.
+pub mod Steps
