@@ -30,8 +30,9 @@
 extern "C" {
 #endif
 
-/* The version of the functions and of the layout below: major, minor, patch as MMmmpp. */
-#define KEXBARDI_VERSION 20000
+/* The version of the functions and of the layout below: major, minor, patch as MMmmpp. package/make writes the
+ * number in: the header to compile with is the packaged one. */
+#define KEXBARDI_VERSION @VERSION@
 
 /* ---- the words */
 

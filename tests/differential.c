@@ -1,6 +1,6 @@
 /* The archive beside the plain engine, call by call: `differential CALLS SEED` makes that many random calls
  * on two desks and compares answers and all memory after each. It links the archive and bench/plain_engine.c:
- *   gcc -O2 -std=c99 -Iinclude -Ibench tests/differential.c bench/plain_engine.c target/kexbardi/lib/libkexbardi.a */
+ *   gcc -O2 -std=c99 -Itarget/kexbardi/include -Ibench tests/differential.c bench/plain_engine.c target/kexbardi/lib/libkexbardi.a */
 #include "kexbardi.h"
 #include "plain_engine.h"
 

@@ -1,7 +1,7 @@
 /* A whole shift on the archive and on the plain engine: sixteen loops, 20 samples a second each, eight hours.
  * Every loop is closed over a small process, and an instructor changes setpoints, gains and modes. It links
  * the archive and bench/plain_engine.c:
- *   gcc -O2 -std=c99 -Iinclude -Ibench tests/shift.c bench/plain_engine.c target/kexbardi/lib/libkexbardi.a */
+ *   gcc -O2 -std=c99 -Itarget/kexbardi/include -Ibench tests/shift.c bench/plain_engine.c target/kexbardi/lib/libkexbardi.a */
 #include "kexbardi.h"
 #include "plain_engine.h"
 
