@@ -1,5 +1,5 @@
-/* The engine in plain C, by the steps of document 01 and apart from the Rattle sources: one sample, stores, a drill file
- * carried out and its lines. It keeps no state of its own. Nothing is proved of it. */
+/* The engine in plain C, by the steps A1 to A11 of docs/MANUAL.md and apart from the Rattle sources: one sample, stores, a
+ * drill file carried out and its lines. It keeps no state of its own. Nothing is proved of it. */
 #include "plain_engine.h"
 
 #include <string.h>
@@ -13,7 +13,7 @@
 
 enum mode { MANUAL, AUTOMATIC, CASCADE };
 
-/* a record's eight numbers */
+/* a record's eight numbers (H1) */
 struct carried {
     int64_t mode, bias, output, last, prior, error, velocity, sampled;
 };
@@ -28,13 +28,13 @@ static int64_t clamp(int64_t x, int64_t low, int64_t high) { return x < low ? lo
 
 static int64_t distance(int64_t a, int64_t b) { return a < b ? b - a : a - b; }
 
-/* to the nearest, halves away from zero */
+/* A7: to the nearest, a half away from zero */
 static int64_t nearest(int64_t x, int64_t by) { return x < 0 ? -((-2 * x + by) / (2 * by)) : (2 * x + by) / (2 * by); }
 
-/* units in the nearest count, halves up; units are never below 0 here */
+/* A10: units in the nearest count, a half up; units are never below 0 here */
 static uint16_t counts(int64_t units) { return (uint16_t)((units + UNIT / 2) / UNIT); }
 
-/* four decimal digits, or -1 where one is above 9 */
+/* W3: four decimal digits, or -1 where one is above 9 (N7) */
 static int decimal(unsigned word) {
     unsigned a = word >> 12, b = word >> 8 & 15, c = word >> 4 & 15, d = word & 15;
     if (a > 9 || b > 9 || c > 9 || d > 9) return -1;
@@ -63,7 +63,7 @@ static int out_of_range(const struct carried *c) {
         || c->prior < 0 || c->prior > 65535 || c->error < -65535 || c->error > 65535;
 }
 
-/* row 8 */
+/* N8 */
 static int setting_refused(const uint16_t *words, const uint16_t *w, enum mode mode, unsigned full, int period, int reset) {
     unsigned m = w[0];
     if (period < 5 || reset == 0 || w[24] > w[25] || w[25] > full) return 1;
@@ -73,7 +73,7 @@ static int setting_refused(const uint16_t *words, const uint16_t *w, enum mode m
     return w[26] > 1023 || words[w[26]] > full;
 }
 
-/* step 7 */
+/* A7 */
 static struct terms terms_of(const uint16_t *w, const int *tuning, int64_t ep, int64_t ei, int64_t change) {
     int64_t period = tuning[0], gain = tuning[1], reset = tuning[2], rate = tuning[3], c = gain ? gain : 100;
     struct terms t;

@@ -1,5 +1,5 @@
-/* The engine in plain C, by document 01 and apart from the Rattle sources: the functions of kexbardi.h under
- * the prefix plain_, with the same parameters, answers and memory. Tests and benchmarks put it beside the
+/* The engine in plain C, by the rules of docs/MANUAL.md and apart from the Rattle sources: the functions of kexbardi.h
+ * under the prefix plain_, with the same parameters, answers and memory. Tests and benchmarks put it beside the
  * archive. Nothing is proved of it. */
 #ifndef PLAIN_ENGINE_H
 #define PLAIN_ENGINE_H

@@ -217,12 +217,12 @@ static void worked_loop(void) {
     }
 }
 
-/* ---- the starred cases: loop A with mode 1 at store 6, stores before line 9, then the raw PVs from line 9 on */
+/* ---- X1 to X3: loop A with mode 1 at store 6, stores before line 9, then the raw PVs from line 9 on */
 
 struct worked {
     const char *name;
     uint16_t mode_1, stores[3][2], raws[3];
-    int samples, output, bias, status; /* -1: the paper does not say */
+    int samples, output, bias, status; /* -1: X2 and X3 do not say */
 };
 
 #define SAME {601, 0} /* a store that changes no setting */
@@ -241,7 +241,7 @@ static const struct worked starred_cases[] = {
     {"rate 1.00, PV 1010", 2, {{10, 256}, SAME, SAME}, {1010, 0, 0}, 1, 3058, -1, -1},
 };
 
-/* more of the kind, worked by hand from the steps */
+/* more of the kind, worked by hand from A1 to A11 */
 static const struct worked further_cases[] = {
     {"reset in minutes", 2, {{1, 16}, SAME, SAME}, {1000, 0, 0}, 1, 3002, 2002, 0x0002},
     {"at the low limit", 2, {{0, 16}, SAME, SAME}, {0, 0, 0}, 1, 0, 3000, 0x0802},
@@ -715,7 +715,7 @@ static void held_at_first(void) {
     check_line(0, 0, 2000, 0x0401);
 }
 
-/* Step 10. One position sample in Automatic, e = setpoint - 1,000 with P = 2e and I = e/5; bias as lent, the carried
+/* A10. One position sample in Automatic, e = setpoint - 1,000 with P = 2e and I = e/5; bias as lent, the carried
  * bias and output afterwards in units. Bit 11 is on where the output ends at a limit and e is not 0. */
 static void bias_word(const char *name, unsigned bits, int64_t lent_bias, unsigned setpoint, unsigned word, unsigned output_word,
     int64_t bias, int64_t output, unsigned status) {

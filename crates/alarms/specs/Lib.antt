@@ -1,3 +1,3 @@
--- Document 01's "Status (word 6)", and the word as the code sums it.
+-- The status word (B1 to B8), and the word as the code sums it.
 pub mod Status
 pub mod Sums

@@ -1,4 +1,4 @@
--- The status word, bit by bit, as document 01's paragraph on word 6 has it. Sums stand in the place of differences, so nothing wraps.
+-- The status word, bit by bit (B1 to B8). Sums stand in the place of differences, so nothing wraps (B3).
 use Prim.Native.Nat.{ℕ, _+_, _-_, _*_}
 use mathlib.Core.Bool.{Bool, cond, not, _&&_, _||_}
 use mathlib.Core.List.{List, [], _∷_}
@@ -16,11 +16,11 @@ pub mod Laws
 
 -- ---- single alarms
 
--- on where x is above the limit; "once on, a high alarm stays while p > limit − hysteresis"
+-- B2, B4: on where x is larger than the limit. B3: one that was on stays while x + hysteresis is
 abbrev pub highAlarm : Bool → ℕ → ℕ → ℕ → Bool
 highAlarm was limit hysteresis x = ltb limit x || (was && ltb limit (x + hysteresis))
 
--- on where x is below the limit; once on, "a low one while p < limit + hysteresis"
+-- B2: on where x is smaller than the limit. B3: one that was on stays while x is smaller than limit + hysteresis
 abbrev pub lowAlarm : Bool → ℕ → ℕ → ℕ → Bool
 lowAlarm was limit hysteresis x = ltb x limit || (was && ltb x (limit + hysteresis))
 
@@ -28,19 +28,19 @@ lowAlarm was limit hysteresis x = ltb x limit || (was && ltb x (limit + hysteres
 unfoldable pub apart : ℕ → ℕ → ℕ
 apart a b = cond (ltb a b) (b - a) (a - b)
 
--- bit 10: "bit 12 set without low-low < low < high < high-high, or bit 13 without yellow < red and hysteresis < yellow"
+-- B6: bit 10, where the settings of watched alarms contradict each other
 abbrev pub unordered : Mode1 → AlarmLimits → Bool
 unordered bits l =
     (bits .level && not (ltb (l .lowlow) (l .low) && ltb (l .low) (l .high) && ltb (l .high) (l .highhigh)))
     || (bits .deviation && not (ltb (l .yellow) (l .red) && ltb (l .hysteresis) (l .yellow)))
 
--- bit 11: "outside Manual, word 5 equals an output limit and p differs from s"
+-- B7: bit 11, not in Manual: the output word is one of its limits, and s is not p
 abbrev pub atLimit : Bool → OutputLimits → ℕ → ℕ → ℕ → Bool
 atLimit manual limits output setpoint pv = not manual && (eqb output (limits .low) || eqb output (limits .high)) && not (eqb pv setpoint)
 
 -- ---- the twelve bits
 
--- "With bit 12: 3, 4 on where p is below low-low, low; 5, 6 above high, high-high"; "was on" is read from the stored word
+-- B2, B3: bits 3 to 6, where the PV is watched. `stored` is word 6 before the sample
 unfoldable pub levelsOf : Bool → AlarmLimits → ℕ → ℕ → Levels
 levelsOf on l stored pv = record {
   lowlow = on && lowAlarm (bit 3 stored) (l .lowlow) (l .hysteresis) pv;
@@ -49,8 +49,7 @@ levelsOf on l stored pv = record {
   highhigh = on && highAlarm (bit 6 stored) (l .highhigh) (l .hysteresis) pv;
 }
 
--- "With bit 13, outside Manual: 7, 8 on where |s − p| is above yellow, red, with the same hold";
--- "With bit 14: 9 where |p − recorded last PV| exceeds word 17, never at the first accepted sample"
+-- B1 for bits 0 to 2; B4 with B3 for bits 7 and 8, off in Manual; B5 for bit 9, off at the first accepted sample; B6, B7 for bits 10, 11
 unfoldable pub statusOf : Mode → Mode1 → AlarmLimits → OutputLimits → ℕ → Seen → Status
 statusOf mode bits l output stored seen =
     let deviation = apart (seen .setpoint) (seen .pv) in
@@ -71,11 +70,12 @@ statusOf mode bits l output stored seen =
 abbrev pub number : Bool → ℕ
 number b = cond b 1 0
 
--- the word whose bits, lowest first, are those of a list
+-- B8: the word whose bits, lowest first, are those of a list, and 0 above them
 abbrev pub wordOf : List Bool → ℕ
 wordOf [] = 0
 wordOf (b ∷ l) = number b + 2 * wordOf l
 
+-- B1 to B7: bits 0 to 11, in this order
 abbrev pub bitsOf : Status → List Bool
 bitsOf s =
     s .manual

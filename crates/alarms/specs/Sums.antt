@@ -18,13 +18,13 @@ pub record Valued (r n b : ℕ) : Type 0 where
 abbrev pub flagOf : Bool → ℕ → ℕ
 flagOf on value = cond on value 0
 
--- bits 0 to 2
+-- B1: bits 0 to 2
 abbrev pub modeBit : Mode → ℕ
 modeBit Manual = 1
 modeBit Automatic = 2
 modeBit Cascade = 4
 
--- bits 3 to 6 of a PV that is monitored
+-- B2, B3: bits 3 to 6 of a watched PV
 abbrev pub levelBits : AlarmLimits → ℕ → ℕ → ℕ
 levelBits l stored pv =
     flagOf (lowAlarm (bit 3 stored) (l .lowlow) (l .hysteresis) pv) 8
@@ -32,7 +32,7 @@ levelBits l stored pv =
     + flagOf (highAlarm (bit 5 stored) (l .high) (l .hysteresis) pv) 32
     + flagOf (highAlarm (bit 6 stored) (l .highhigh) (l .hysteresis) pv) 64
 
--- bits 7 and 8 of a deviation that is monitored
+-- B4, B3: bits 7 and 8 of a watched deviation
 abbrev pub deviationBits : AlarmLimits → ℕ → ℕ → ℕ
 deviationBits l stored deviation =
     flagOf (highAlarm (bit 7 stored) (l .yellow) (l .hysteresis) deviation) 128

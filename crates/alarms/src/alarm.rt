@@ -7,21 +7,21 @@ ghost use mathlib.Core.Bool.{cond};
 ghost use Rattle.alarms.specs.Status.{highAlarm, lowAlarm, apart, unordered, atLimit};
 ghost use Rattle.alarms.specs.Sums.{Valued};
 
-// What the hold adds: the hysteresis of an alarm that was on.
+// B3: what the hold adds, the hysteresis of an alarm that was on.
 fn margin(was: bool, hysteresis: u16) -> u32
     ensures { λ r. ⌜ Valued r (cond was hysteresis 0) 65535 ⌝ }
 {
     if was { hysteresis as u32 } else { 0 }
 }
 
-// On above the limit; once on, on while x > limit − hysteresis.
+// B2, B4: on where x, or with the hold the sum, is larger than the limit.
 pub(crate) fn high_alarm(was: bool, limit: u16, hysteresis: u16, x: u16) -> bool
     ensures { λ r. ⌜ r ≡ highAlarm was limit hysteresis x ⌝ }
 {
     (limit as u32) < x as u32 + margin(was, hysteresis)
 }
 
-// On below the limit; once on, on while x < limit + hysteresis.
+// B2: on where x is smaller than the limit, or with the hold than the sum.
 pub(crate) fn low_alarm(was: bool, limit: u16, hysteresis: u16, x: u16) -> bool
     ensures { λ r. ⌜ r ≡ lowAlarm was limit hysteresis x ⌝ }
 {
@@ -35,7 +35,7 @@ pub(crate) fn distance(a: u16, b: u16) -> u16
     if a < b { b - a } else { a - b }
 }
 
-// The settings of alarms that are on contradict each other.
+// B6: the settings of watched alarms contradict each other.
 pub(crate) fn contradiction(bits: Mode1, limits: AlarmLimits) -> bool
     ensures { λ r. ⌜ r ≡ unordered bits limits ⌝ }
 {
@@ -46,7 +46,7 @@ pub(crate) fn contradiction(bits: Mode1, limits: AlarmLimits) -> bool
         | (bits.deviation & !((limits.yellow < limits.red) & (limits.hysteresis < limits.yellow)))
 }
 
-// The output stands at one of its limits while the PV is off the setpoint.
+// B7: the output stands at one of its limits while the PV is off the setpoint.
 pub(crate) fn saturated(
     manual: bool,
     limits: OutputLimits,

@@ -1,4 +1,4 @@
-// The status word: the mode, the alarms with their hold, and the two bits that tell of a fault in
+// The status word (B1 to B8): the mode, the alarms with their hold, and the two bits that tell of a fault in
 // the alarm settings and of an output at its limit.
 mod alarm;
 mod status;

@@ -44,7 +44,7 @@ pub struct Status {
     pub saturated: bool,
 }
 
-// Bits 0 to 2.
+// B1: bits 0 to 2.
 fn mode_bit(mode: Mode) -> u16
     ensures { λ r. ⌜ Valued r (modeBit mode) 4 ⌝ }
 {
@@ -62,7 +62,7 @@ fn flag(on: bool, bit: u16) -> u16
     if on { bit } else { 0 }
 }
 
-// Bits 3 to 6, where the PV is monitored. `stored` is the status word before the sample.
+// B2, B3: bits 3 to 6, where the PV is watched. `stored` is the status word before the sample.
 fn level_bits(on: bool, limits: AlarmLimits, stored: u16, pv: u16) -> u16
     ensures { λ r. ⌜ Valued r (cond on (levelBits limits stored pv) 0) 120 ⌝ }
 {
@@ -78,7 +78,7 @@ fn level_bits(on: bool, limits: AlarmLimits, stored: u16, pv: u16) -> u16
     }
 }
 
-// Bits 7 and 8, where the deviation is monitored.
+// B4, B3: bits 7 and 8, where the deviation is watched.
 fn deviation_bits(on: bool, limits: AlarmLimits, stored: u16, setpoint: u16, pv: u16) -> u16
     ensures { λ r. ⌜ Valued r (cond on (deviationBits limits stored (apart setpoint pv)) 0) 384 ⌝ }
 {
@@ -93,7 +93,7 @@ fn deviation_bits(on: bool, limits: AlarmLimits, stored: u16, setpoint: u16, pv:
     }
 }
 
-// Word 6 after a sample: `mode` is the resulting one, `stored` the word before the sample.
+// Word 6 after a sample: `mode` is the one of A2, `stored` the word before the sample.
 pub fn status_word(
     mode: Mode,
     bits: Mode1,

@@ -1,5 +1,5 @@
--- The carried record of a loop as numbers of 64 bits, in the order of document 01's list: their ranges, one row a number, and the place of each
--- loop's record in the lent buffer.
+-- The carried record of a loop as numbers of 64 bits (H1): their ranges, one row a number, and the place of each loop's record in the lent
+-- buffer (H4).
 use Prim.Native.Nat.{ℕ, suc, _*_, _-_, _^_}
 use mathlib.Core.Bool.{Bool, false, cond, _||_}
 use mathlib.Core.List.{List, [], _∷_}
@@ -22,7 +22,7 @@ infix 20 _to_
 abbrev pub _to_ : ℤ → ℤ → Range
 low to high = record { low = low; high = high }
 
--- mode; bias and output in units; the last PV and the one before; error; algorithm; whether a sample was ever accepted
+-- H1: mode; bias and output in units; the last PV and the one before; error; form; whether a sample was accepted
 abbrev pub ranges : List Range
 ranges =
     (pos 0 to pos 2)
@@ -35,11 +35,11 @@ ranges =
     ∷ (pos 0 to pos 1)
     ∷ []
 
--- how many numbers a record has
+-- H1: how many numbers a record has
 abbrev pub fieldCount : ℕ
 fieldCount = length ranges
 
--- a number is outside its row
+-- H5: a number is outside its row
 abbrev pub outsideRow : Range → ℤ → Bool
 outsideRow r n = ltZ n (r .low) || ltZ (r .high) n
 
@@ -48,20 +48,23 @@ abbrev pub rangeTests : List Range → List ℤ → ℕ → List Bool
 rangeTests [] ns i = []
 rangeTests (r ∷ rs) ns i = outsideRow r (getD ns i (pos 0)) ∷ rangeTests rs ns (suc i)
 
--- a number of the record is out of range
+-- H5: a number of the record is out of range
 unfoldable pub outOfRange : List ℤ → Bool
 outOfRange ns = any (rangeTests ranges ns 0)
 
 -- ---- a record as numbers
 
+-- H1: the number of a mode
 abbrev pub modeNumber : Mode → ℕ
 modeNumber Manual = 0
 modeNumber Automatic = 1
 modeNumber Cascade = 2
 
+-- H1: the number of a form and of `sampled`
 abbrev pub flag : Bool → ℤ
 flag on = cond on (pos 1) (pos 0)
 
+-- H1: the numbers of a record, in their order
 unfoldable pub numbersOf : Carried → List ℤ
 numbersOf c =
     pos (modeNumber (c .state .mode))
@@ -76,12 +79,15 @@ numbersOf c =
 
 -- ---- and back, from numbers in range
 
+-- H1: the mode of a number
 abbrev pub modeFrom : ℤ → Mode
 modeFrom n = cond (ltZ n (pos 1)) Manual (cond (ltZ n (pos 2)) Automatic Cascade)
 
+-- H1: 1 is on, 0 off
 abbrev pub flagFrom : ℤ → Bool
 flagFrom n = ltZ (pos 0) n
 
+-- H1: the record that such numbers are
 unfoldable pub recordFrom : List ℤ → Carried
 recordFrom ns =
     let at : ℕ → ℤ = λ i. getD ns i (pos 0) in
@@ -92,7 +98,7 @@ recordFrom ns =
       sampled = flagFrom (at 7);
     }
 
--- at reset every number is 0, the mode Manual, and no sample accepted
+-- H3: at reset Manual, position form, no sample accepted, and all else 0
 unfoldable pub resetRecord : Carried
 resetRecord = record {
   state = record { mode = Manual; velocity = false };
@@ -103,17 +109,18 @@ resetRecord = record {
 
 -- ---- the buffer: sixteen records, loop 1 first
 
+-- H4: how many numbers sixteen records have
 abbrev pub numberCount : ℕ
 numberCount = 16 * fieldCount
 
--- the place of loop k's record
+-- H4: the place of loop k's record
 abbrev pub slotOf : ℕ → ℕ
 slotOf k = fieldCount * (k - 1)
 
--- the numbers of the record that starts at a place
+-- H4: the numbers of the record that starts at a place
 abbrev pub numbersAt : List ℤ → ℕ → List ℤ
 numbersAt ns at = take fieldCount (drop at ns)
 
--- loop k's record
+-- H4: loop k's record
 abbrev pub recordAt : List ℤ → ℕ → Carried
 recordAt ns k = recordFrom (numbersAt ns (slotOf k))

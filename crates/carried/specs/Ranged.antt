@@ -1,4 +1,4 @@
--- What a record in range is known to be: the premise of the engine, and what it leaves again.
+-- What a record in range (H1) is known to be: the premise of the engine, and what it leaves again (H2).
 use Prim.Native.Nat.{_*_, _^_, _≤_}
 use lib.IntN.{pos, natAbs}
 use lib.Signed.{_≤ℤ_}

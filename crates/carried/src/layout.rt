@@ -1,4 +1,4 @@
-// A carried record as numbers of 64 bits, and its place in the lent buffer. A new field is a place here, a
+// A carried record as numbers of 64 bits (H1), and its place in the lent buffer (H4). A new field is a place here, a
 // row of `ranges` and a line of `numbersOf` and `recordFrom` in the definitions.
 use crate::record::Carried;
 use crate::record::Past;
@@ -85,7 +85,7 @@ fn outside(n: i64, low: i64, high: i64) -> bool
     (n < low) | (high < n)
 }
 
-// A number of a record is out of range: the rows of the table, spelled out.
+// H5: a number of a record is out of range. The rows of H1, spelled out.
 pub fn out_of_range(n: [i64; FIELDS]) -> bool
     ensures { λ r. ⌜ r ≡ outOfRange n ⌝ }
 {

@@ -1,11 +1,11 @@
-// The carried record, by subject.
+// The carried record (H1), by subject.
 use control::Drive;
 use table::Mode;
 
-// What steps 1 to 5 read of the samples before. The plain loop of demand 3 holds it as well.
+// What A2 and A4 read of the samples before. The plain loop (E3) holds it as well.
 pub struct State {
     pub mode: Mode,
-    pub velocity: bool, // the last algorithm: velocity form, else position
+    pub velocity: bool, // the last form: velocity, else position
 }
 
 // The recorded PVs and error. `prior` is the PV before the last.

@@ -25,7 +25,7 @@ use Rattle.desk.specs.Lists.Laws.{refused-call, unfit}
 use Rattle.kexbardi.specs.Interface.{lineLeft}
 use Rattle.claims.specs.Calls.{Reserved, pv, bias, status, profile, Settled, Rows, Called}
 
--- every answer is 0 or a number of the table
+-- every answer is 0 or a number of N1 to N9
 pub small : (a : Answer) → numberOf a ≤ 9
 small Accepted = omega arith
 small (Refused why) = in-table why .1
@@ -101,7 +101,7 @@ no-such-loop k wrong = go (ltb k 1) refl (ltb 16 k) refl
     go false e true f = rw (e, f)
     go false e false f = absurd (wrong (ltb-false k 1 e, ltb-false 16 k f))
 
--- one of the groups of 8 holds
+-- one of the groups of N8 holds
 one-of : (modes times limits setpoint above : Bool) → (modes ≡ false → times ≡ false → limits ≡ false → setpoint ≡ false → ⊥)
     → numberOf (firstOf ((modes ⇒ Setting) ∷ (times ⇒ Setting) ∷ (limits ⇒ Setting) ∷ (setpoint ⇒ Setting) ∷ (above ⇒ Above) ∷ [])) ≡ 8
 one-of true times limits setpoint above some = refl

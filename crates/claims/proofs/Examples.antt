@@ -13,19 +13,19 @@ use Rattle.desk.proofs.Examples as desk
 use Rattle.session.specs.Printed.{printedOf}
 use Rattle.session.proofs.Worked as worked
 
--- the examples of the table's first rows
+-- the examples of N1 to N3
 pub records-read : recordsOf reader.file ≡ map (λ (c : reader.Case). c .item) reader.cases
 records-read = reader.all-cases .0
 
--- refusals 7 to 9 at their edges
+-- N7 to N9 at their edges
 pub settings-judged : map judging.answer judging.cases ≡ map (λ (c : judging.Case). c .number) judging.cases
 settings-judged = judging.computed
 
--- the starred cases, one claim
+-- X1 to X3, one claim
 pub starred-cases : map starred.given starred.starred ≡ map (λ (x : starred.Case). x .answers) starred.starred
 starred-cases = starred.all-starred
 
--- the plain loop beside the engine
+-- E3 to E5: the plain loop beside the engine
 pub plain-lists : map plain.from-reset (plain.loopA ∷ plain.counting ∷ plain.entered ∷ plain.cascaded ∷ [])
     ≡ map (map plain.expected) (plain.loopA ∷ plain.counting ∷ plain.entered ∷ plain.cascaded ∷ [])
 plain-lists = plain.computed
@@ -34,6 +34,6 @@ plain-lists = plain.computed
 pub desk-list : desk.rows resetDesk (begun (recordAt (resetDesk .numbers) 9)) desk.mixed ≡ map desk.expected desk.mixed
 desk-list = desk.computed
 
--- the worked loop's printed lines
+-- X1: the worked loop's printed lines
 pub worked-lines : printedOf worked.file ≡ worked.text
 worked-lines = worked.worked

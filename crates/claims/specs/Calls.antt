@@ -1,4 +1,4 @@
--- What every direct call answers and leaves, on memory of any lengths.
+-- What every direct call (Q1 to Q4) answers and leaves, on memory of any lengths.
 use Prim.Native.Nat.{ℕ, _%_, _≤_, _<_}
 use mathlib.Core.Path.{_≡_}
 use mathlib.Core.Bool.{true, false}
@@ -16,14 +16,14 @@ use Rattle.desk.specs.Desk.{Desk, lent, fittingOf, resetAnswer, resetLeft, stor
 use Rattle.desk.specs.Lists.{Call, answerTo}
 use Rattle.kexbardi.specs.Interface.{lineLeft}
 
--- the offsets of a loop that no store reaches
+-- N6: the words of a loop that no store reaches
 pub data Reserved : ℕ → Type 0 where
   pv : Reserved 3
   bias : Reserved 4
   status : Reserved 6
   profile : Reserved 29
 
--- what a sample reads passes row 7 and each group of row 8
+-- what a sample reads passes N7 and each group of N8
 pub record Settled (r : Reading) : Type 0 where
   pub digit : r .settings .baddigit ≡ false
   pub modes : badModes (r .settings .mode1) (r .settings .mode2 .unused) (r .settings .alarms .hysteresis) ≡ false
@@ -31,7 +31,7 @@ pub record Settled (r : Reading) : Type 0 where
   pub limits : badLimits (r .settings .limits) (r .settings .mode2 .output .scale) ≡ false
   pub setpoint : badSetpoint (isCascade (r .mode)) (r .settings .mode2 .input .scale) (r .settings .stored .setpoint) (r .settings .pointer) (r .remote) ≡ false
 
--- the numbers of a sample's refusals on memory of the right lengths, each where no row before it holds
+-- O3, O4: the numbers of a sample's refusals on memory of the right lengths, each where none before it holds
 pub record Rows (d : Desk) (k raw : ℕ) : Type 0 where
   pub loop : ((1 ≤ k) × (k ≤ 16) → ⊥) → numberOf (sampleAnswer d k raw) ≡ 4
   pub carried : 1 ≤ k → k ≤ 16 → outOfRange (numbersAt (d .numbers) (slotOf k)) ≡ true → numberOf (sampleAnswer d k raw) ≡ 5
@@ -41,28 +41,28 @@ pub record Rows (d : Desk) (k raw : ℕ) : Type 0 where
       × (Settled r → r .settings .mode2 .input .scale < raw → numberOf (sampleAnswer d k raw) ≡ 9)
 
 pub record Called : Type 0 where
-  -- the lengths are 1,024 words and the records' numbers
+  -- N5: the lengths are 1,024 words and the records' numbers
   pub lengths : (d : Desk) → (length (d .words) ≡ 1024 → length (d .numbers) ≡ numberCount → fittingOf d ≡ true)
       × (fittingOf d ≡ true → (length (d .words) ≡ 1024) × (length (d .numbers) ≡ numberCount))
-  -- every answer is 0, which is an acceptance, or a number of the table; 5 on memory of wrong lengths; a sample's that of the first row that holds
+  -- every answer is 0, which is an acceptance, or a number of N1 to N9; 5 on memory of wrong lengths; a sample's that of the first rule that holds
   pub answers : (d : Desk) (call : Call) → (numberOf (answerTo d call) ≤ 9) × (fittingOf d ≡ false → numberOf (answerTo d call) ≡ 5)
   pub zero : (a : Answer) → numberOf a ≡ 0 → a ≡ Accepted
   pub rows : (d : Desk) (k raw : ℕ) → fittingOf d ≡ true → Rows d k raw
-  -- a store of an address that may be stored is carried out, and changes that word; any other is refused with 6
+  -- Q2: a store of an address that may be stored is carried out, and changes that word; any other is refused with 6 (N6)
   pub stores : (d : Desk) (address value : ℕ) → fittingOf d ≡ true → address ≤ 1023 → (address < 512 → Reserved (address % 32) → ⊥)
       → (numberOf (storeAnswer d address) ≡ 0) × (storeLeft d address value ≡ lent (set (d .words) address value) (d .numbers))
   pub unstored : (d : Desk) (address : ℕ) → fittingOf d ≡ true
       → (1023 < address → numberOf (storeAnswer d address) ≡ 6) × (address < 512 → Reserved (address % 32) → numberOf (storeAnswer d address) ≡ 6)
-  -- a reset leaves zeros
+  -- Q1, H3: a reset leaves zeros
   pub resets : (d : Desk) → fittingOf d ≡ true
       → (numberOf (resetAnswer d) ≡ 0) × (resetLeft d ≡ lent (replicate 1024 0) (replicate numberCount (pos 0)))
-  -- a record in range is copied out; of wrong lengths, no such loop and a record out of range the answer is 5, 4 and 5
+  -- Q4: a record in range is copied out; of wrong lengths, no such loop and a record out of range the answer is 5, 4 and 5
   pub copies : (ns : List ℤ) (k : ℕ) (copied : List ℤ) → length ns ≡ numberCount → 1 ≤ k → k ≤ 16 → outOfRange (numbersAt ns (slotOf k)) ≡ false
       → length copied ≡ fieldCount → (numberOf (fieldsAnswer ns k) ≡ 0) × (fieldsLeft ns k copied ≡ numbersAt ns (slotOf k))
   pub uncopied : (ns : List ℤ) (k : ℕ) → ((length ns ≡ numberCount → ⊥) → numberOf (fieldsAnswer ns k) ≡ 5)
       × (length ns ≡ numberCount → ((1 ≤ k) × (k ≤ 16) → ⊥) → numberOf (fieldsAnswer ns k) ≡ 4)
       × (length ns ≡ numberCount → 1 ≤ k → k ≤ 16 → outOfRange (numbersAt ns (slotOf k)) ≡ true → numberOf (fieldsAnswer ns k) ≡ 5)
-  -- one that is refused leaves all that was lent to it
+  -- Q8: one that is refused leaves all that was lent to it
   pub reset : (d : Desk) → 0 < numberOf (resetAnswer d) → resetLeft d ≡ d
   pub store : (d : Desk) (address value : ℕ) → 0 < numberOf (storeAnswer d address) → storeLeft d address value ≡ d
   pub sample : (d : Desk) (k raw : ℕ) (line : List ℕ) → 0 < numberOf (sampleAnswer d k raw)

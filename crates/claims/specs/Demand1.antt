@@ -1,5 +1,5 @@
 -- Demand 1. A drill file is any list of bytes. All of it is read: a record that the file cuts off is the last one, and behind every other record the
--- next one is read, whether that record was carried out or refused. A refusal has a number of the table and changes no word and no number, in a
+-- next one is read, whether that record was carried out or refused. A refusal has a number of N1 to N9 and changes no word and no number, in a
 -- file and in a direct call; a refused direct call leaves everything that was lent to it.
 use Prim.Native.Nat.{ℕ, suc, _+_, _≤_, _<_}
 use mathlib.Core.Path.{_≡_}
@@ -20,7 +20,7 @@ use Rattle.kexbardi_files.specs.Files.{ended, endedBy, answersLeft, printed, pr
 use Rattle.claims.specs.Calls.{Called}
 use Rattle.claims.specs.Names.{Names}
 
--- what a record is whose n bytes stand whole behind its length, with the kind at `at`
+-- L2 to L7: what a record is whose n bytes stand whole behind its length, with the kind at `at`
 pub record Whole (file : List ℕ) (at n kind : ℕ) (item : Record) : Type 0 where
   pub short : n < 2 → item ≡ Refused Kind
   pub unknown : (kind ≡ 1 → ⊥) → (kind ≡ 2 → ⊥) → item ≡ Refused Kind
@@ -32,30 +32,30 @@ pub record Whole (file : List ℕ) (at n kind : ℕ) (item : Record) : Type 0 wh
 pub record Demand1 : Type 0 where
   -- ---- the file
 
-  -- every byte belongs to one record: the records' bytes, joined in order, are the file
+  -- L8: every byte belongs to one record: the records' bytes, joined in order, are the file
   pub read : (file : List ℕ) → (flatten (spansOf file) ≡ file) × (length (spansOf file) ≡ length (recordsOf file))
-  -- where fewer bytes are left than a length and what it says, the record is cut and ends the file
+  -- L5: where fewer bytes are left than a length and what it asks for, the record is cut and is the last
   pub cut : (file : List ℕ) (at : ℕ) → length file < at + 2 + wordAt file at → let r = recordAt file at in
       (r .item ≡ Refused Cut) × (r .next ≡ length file)
-  -- any other is what its bytes say, and is followed by what stands behind them
+  -- L8: any other is what its bytes say, and is followed by what stands behind them
   pub whole : (file : List ℕ) (at : ℕ) → at + 2 + wordAt file at ≤ length file → let r = recordAt file at in
       Whole file (at + 2) (wordAt file at) (wordAt file (at + 2)) (r .item) × (r .next ≡ at + 2 + wordAt file at)
   pub next : (file : List ℕ) (at : ℕ) → at < length file → let r = recordAt file at in
       (recordsFrom file at ≡ r .item ∷ recordsFrom file (r .next)) × (spansFrom file at ≡ slice at (r .next) file ∷ spansFrom file (r .next))
   pub end : (file : List ℕ) (at : ℕ) → length file ≤ at → recordsFrom file at ≡ []
-  -- refusals 1, 2 and 3
+  -- N1, N2 and N3
   pub unread : (d : Desk) → (numberFor d (Refused Cut) ≡ 1) × (numberFor d (Refused Kind) ≡ 2) × (numberFor d (Refused Length) ≡ 3)
-  -- a cut record is the last one
+  -- L5: a cut record is the last one
   pub last : (file : List ℕ) (before after : List Record) → recordsOf file ≡ before ++ (Refused Cut ∷ after) → after ≡ []
   -- ---- a file carried out
 
-  -- on memory of the right lengths the answer is 0, there is an answer for each record, and `refused` counts those that are not 0
+  -- Q5: on memory of the right lengths the answer is 0, there is an answer for each record, and `refused` counts those that are not 0
   pub counted : (file : List ℕ) (d : Desk) (count refused : ℕ) → fittingOf d ≡ true → let e = endedBy (endedOf file d) count refused in
       (e .number ≡ 0) × (e .count ≡ length (recordsOf file)) × (length (answersOf file d) ≡ e .count) × (e .refused ≡ refusalsIn (answersOf file d))
   pub refusals : (refusalsIn [] ≡ 0) × ((l : List ℕ) → refusalsIn (0 ∷ l) ≡ refusalsIn l) × ((a : ℕ) (l : List ℕ) → refusalsIn (suc a ∷ l) ≡ suc (refusalsIn l))
-  -- every answer is 0 or a number of the table
+  -- every answer is 0 or a number of N1 to N9
   pub numbers : (file : List ℕ) (d : Desk) (i : ℕ) → getD (answersOf file d) i 0 ≤ 9
-  -- each record is answered by the desk as those before it left it, and carried out on that; where its answer is not 0, all words and numbers stay
+  -- O2, O5: each record is answered by the desk as those before left it, and carried out on it; where its answer is not 0, words and numbers stay
   pub each : (file : List ℕ) (d : Desk) → fittingOf d ≡ true → (before : List Record) (x : Record) (after : List Record)
       → recordsOf file ≡ before ++ (x ∷ after)
       → let here = runOf (begun d) before .desk in
@@ -63,25 +63,25 @@ pub record Demand1 : Type 0 where
       (getD (answersOf file d) (length before) 0 ≡ numberFor here x) × (then ≡ leftFor here x) × (0 < numberFor here x → then ≡ here)
   -- and what the run leaves is the desk behind the last of them
   pub behind : (file : List ℕ) (d : Desk) → fittingOf d ≡ true → leftOf file d ≡ runOf (begun d) (recordsOf file) .desk
-  -- the answers' buffer holds the answers as far as it reaches, and behind them what it held
+  -- Q5: the answers' buffer holds the answers as far as it reaches, and behind them what it held
   pub buffer : (file : List ℕ) (d : Desk) (answers : List ℕ) (i : ℕ) → let n = length (answersOf file d) in
       (i < length answers → i < n → getD (answersLeft file d answers) i 0 ≡ getD (answersOf file d) i 0)
       × (n ≤ i → getD (answersLeft file d answers) i 0 ≡ getD answers i 0)
-  -- on memory of wrong lengths a run is a single 5: nothing is read, and words, numbers, counts and answers stay
+  -- O1: on memory of wrong lengths a run is a single 5: nothing is read, and words, numbers, counts and answers stay
   pub memory : (file : List ℕ) (d : Desk) (count refused : ℕ) (answers : List ℕ) → fittingOf d ≡ false
       → (endedBy (endedOf file d) count refused ≡ ended 5 count refused) × (leftOf file d ≡ d) × (answersLeft file d answers ≡ answers)
   -- ---- a file printed
 
-  -- a line for each record, and a last line that counts the records and those that were refused
+  -- L9, L10: a line for each record, and a last line that counts the records and those that were refused
   pub lines : (file : List ℕ) → length file ≤ 65536
       → printedOf file ≡ bodyOf (begun resetDesk) (recordsOf file) ++ lastText (length (recordsOf file)) (refusalsIn (answersOf file resetDesk))
   pub line : (before : List Record) (x : Record) → let here = runOf (begun resetDesk) before .desk in
       bodyOf (begun resetDesk) (before ++ (x ∷ []))
       ≡ bodyOf (begun resetDesk) before ++ lineText (length before + 1) x (numberFor here x) (shownFor (leftFor here x .words) x)
   pub no-line : bodyOf (begun resetDesk) [] ≡ []
-  -- of a longer file this alone
+  -- L11: of a longer file this alone
   pub too-long : (file : List ℕ) → 65536 < length file → printedOf file ≡ bytes "too long\n"
-  -- where there is room the text is at the start of the buffer; else the answer is 5, and buffer and length stay
+  -- Q6: where there is room the text is at the start of the buffer; else the answer is 5, and buffer and length stay
   pub prints : (file out : List ℕ) (size : ℕ) → roomFor file ≤ length out
       → printLeft file out size ≡ printed 0 (sets out 0 (printedOf file)) (length (printedOf file))
   pub no-room : (file out : List ℕ) (size : ℕ) → length out < roomFor file → printLeft file out size ≡ printed 5 out size

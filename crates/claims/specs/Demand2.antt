@@ -1,6 +1,6 @@
--- Demand 2. A sample is accepted exactly where no refusal of the table holds. Then every word and every number is as the steps define it: the loop's
--- six words and its record change, and nothing else. What comes of a sample is a matter of the loop's 32 words, its record, the raw PV and, in
--- Cascade, the word pointed to: loop 9 set up like loop 1 answers alike. And a record in range never leaves its ranges, whatever is called.
+-- Demand 2. A sample is accepted exactly where no refusal holds (O3). Then every word and every number is as A1 to A12 define it: the loop's six words
+-- and its record change, and nothing else (Q3). What comes of a sample is a matter of the loop's 32 words, its record, the raw PV and, in Cascade,
+-- the word pointed to (Q9): loop 9 set up like loop 1 answers alike. And a record in range never leaves its ranges, whatever is called (E8).
 use Prim.Native.Nat.{ℕ, _+_, _≤_}
 use mathlib.Core.Path.{_≡_}
 use mathlib.Core.Bool.{true, false}
@@ -15,7 +15,7 @@ use Rattle.kexbardi.specs.Interface.{lineLeft}
 use Rattle.claims.specs.Turns.{Turn, behindAll}
 use Rattle.claims.specs.Calls.{Settled}
 
--- no refusal holds: the memory has its lengths, there is such a loop, its record is in range, and what is read passes 7, 8 and 9
+-- O3: no refusal holds: the memory has its lengths, there is such a loop, its record is in range, and what is read passes N7, N8 and N9
 pub record Acceptable (d : Desk) (k raw : ℕ) : Type 0 where
   pub memory : fittingOf d ≡ true
   pub loop : (1 ≤ k) × (k ≤ 16)
@@ -23,7 +23,7 @@ pub record Acceptable (d : Desk) (k raw : ℕ) : Type 0 where
   pub reading : Settled (readingAt d k)
   pub below : raw ≤ readingAt d k .settings .mode2 .input .scale
 
--- the address i is none of the six words that a sample of loop k writes: 0, 2, 3, 4, 5 and 6
+-- A12: the address i is none of the six words that a sample of loop k writes: 0, 2, 3, 4, 5 and 6
 pub record Other (k i : ℕ) : Type 0 where
   pub mode : i ≡ baseOf k → ⊥
   pub setpoint : i ≡ baseOf k + 2 → ⊥
@@ -32,7 +32,7 @@ pub record Other (k i : ℕ) : Type 0 where
   pub output : i ≡ baseOf k + 5 → ⊥
   pub status : i ≡ baseOf k + 6 → ⊥
 
--- e holds what the steps give for a sample of loop k on d: the loop's six words, and its record as numbers
+-- A1 to A12: e holds what they give for a sample of loop k on d: the loop's six words, and its record as numbers
 pub record Done (d e : Desk) (k raw : ℕ) : Type 0 where
   pub word : getD (e .words) (baseOf k) 0 ≡ stepAt d k raw .written .word
   pub setpoint : getD (e .words) (baseOf k + 2) 0 ≡ stepAt d k raw .written .setpoint
@@ -42,7 +42,7 @@ pub record Done (d e : Desk) (k raw : ℕ) : Type 0 where
   pub status : getD (e .words) (baseOf k + 6) 0 ≡ stepAt d k raw .written .status
   pub numbers : numbersAt (e .numbers) (slotOf k) ≡ numbersOf (stepAt d k raw .carried)
 
--- loop k of one desk and loop k′ of another agree on what a sample depends on
+-- Q9: loop k of one desk and loop k′ of another agree on what a sample depends on
 pub record Agree (d d′ : Desk) (k k′ : ℕ) : Type 0 where
   pub memory : fittingOf d ≡ true
   pub memory′ : fittingOf d′ ≡ true
@@ -53,28 +53,28 @@ pub record Agree (d d′ : Desk) (k k′ : ℕ) : Type 0 where
   pub pointed : isCascade (readingAt d k .mode) ≡ true
       → getD (d .words) (readingAt d k .settings .pointer) 0 ≡ getD (d′ .words) (readingAt d k .settings .pointer) 0
 
--- the record of loop k is in range
+-- H5: the record of loop k is in range
 abbrev pub InRange : ℕ → Desk → Type 0
 InRange k d = outOfRange (numbersAt (d .numbers) (slotOf k)) ≡ false
 
 pub record Demand2 : Type 0 where
-  -- accepted exactly where no refusal holds
+  -- O3: accepted exactly where no refusal holds
   pub accepted : (d : Desk) (k raw : ℕ) → Acceptable d k raw → numberOf (sampleAnswer d k raw) ≡ 0
   pub only : (d : Desk) (k raw : ℕ) → numberOf (sampleAnswer d k raw) ≡ 0 → Acceptable d k raw
-  -- the steps' definition, word for word and number for number; the line shows the words after it
+  -- A1 to A12, word for word and number for number. Q3: the line shows the words after it
   pub exact : (d : Desk) (k raw : ℕ) → numberOf (sampleAnswer d k raw) ≡ 0 → Done d (sampleLeft d k raw) k raw
   pub line : (d : Desk) (k raw : ℕ) (line : List ℕ) → numberOf (sampleAnswer d k raw) ≡ 0 → lineLeft d k raw line ≡ lineOf (sampleLeft d k raw .words) k
-  -- no other word, no other loop's record, and no length
+  -- Q3: no other word, no other loop's record, and no length
   pub other-words : (d : Desk) (k raw i : ℕ) → Other k i → getD (sampleLeft d k raw .words) i 0 ≡ getD (d .words) i 0
   pub other-records : (d : Desk) (k raw j : ℕ) → 1 ≤ j → (j ≡ k → ⊥)
       → numbersAt (sampleLeft d k raw .numbers) (slotOf j) ≡ numbersAt (d .numbers) (slotOf j)
   pub lengths : (d : Desk) (k raw : ℕ)
       → (length (sampleLeft d k raw .words) ≡ length (d .words)) × (length (sampleLeft d k raw .numbers) ≡ length (d .numbers))
-  -- two loops that agree answer alike, and leave the same words, the same record and the same line
+  -- Q9: two loops that agree answer alike, and leave the same words, the same record and the same line
   pub local : (d d′ : Desk) (k k′ raw : ℕ) (line : List ℕ) → Agree d d′ k k′
       → (sampleAnswer d k raw ≡ sampleAnswer d′ k′ raw)
       × (blockAt (sampleLeft d k raw .words) (baseOf k) ≡ blockAt (sampleLeft d′ k′ raw .words) (baseOf k′))
       × (numbersAt (sampleLeft d k raw .numbers) (slotOf k) ≡ numbersAt (sampleLeft d′ k′ raw .numbers) (slotOf k′))
       × (lineLeft d k raw line ≡ lineLeft d′ k′ raw line)
-  -- the ranges are never left
+  -- E8: the ranges are never left
   pub ranges : (d : Desk) (ts : List Turn) (k : ℕ) → 1 ≤ k → k ≤ 16 → InRange k d → InRange k (behindAll d ts)

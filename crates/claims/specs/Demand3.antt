@@ -1,7 +1,7 @@
--- Demand 3. Over any list of turns, beginning with any words and any numbers, two things hold of every sample that is answered 0. Its output word is
--- inside the limits that the sample read. And where its loop has counted n samples since an entry, in position form, never in Manual nor with
--- freeze, the word is as near to the exact output as half a count and (n + 1) units. The exact output, n and B are the plain loop's, which begins
--- with the list and with every reset, and goes on through files.
+-- Demand 3. Over any list of turns (E1), beginning with any words and any numbers, two things hold of every sample that is answered 0. Its output word
+-- is inside the limits that the sample read (E2). And where its loop has counted n samples since an entry, in position form, never in Manual nor with
+-- freeze, the word is as near to the exact output as half a count and (n + 1) units (E6). The exact output, n and B are the plain loop's (E3), which
+-- begins with the list and with every reset, and goes on through files.
 use Prim.Native.Nat.{ℕ, _+_, _≤_, _<_}
 use mathlib.Core.Path.{_≡_}
 use mathlib.Core.Bool.{true, false, _||_}
@@ -22,7 +22,7 @@ use Rattle.desk.specs.Lists.{Call, reset, store, sample, answerTo, deskAfter, d
 use Rattle.session.specs.Session.{callsOf, leftOf}
 use Rattle.claims.specs.Turns.{Made, one, file, Turn, found, numberTo, behindAll, fedMade, fedAll}
 
--- of one direct call, q being the plain loop after it: a sample of loop k that is answered 0 is accurate
+-- E2, E6 of one direct call, q being the plain loop after it: a sample of loop k that is answered 0 is accurate
 abbrev pub Direct : ℕ → Desk → Plain → Call → Type 0
 Direct k d q reset = Unit {0}
 Direct k d q (store address value) = Unit {0}
@@ -31,12 +31,12 @@ Direct k d q (sample j raw) =
     → let base = baseOf k in
     Accurate (getD (d .words) (base + 24) 0) (getD (d .words) (base + 25) 0) (getD (deskAfter d (sample j raw) .words) (base + 5) 0) q
 
--- of one call: a file that is answered 0 is its records' calls in a row, each of them accurate, and it leaves what they leave
+-- E1, of one call: a file that is answered 0 is its records' calls in a row, each of them accurate, and it leaves what they leave
 abbrev pub Good : ℕ → Plain → Desk → Made → Type 0
 Good k q d (one call) = Direct k d (fed k q d call) call
 Good k q d (file bytes) = numberTo d (file bytes) ≡ 0 → let calls = callsOf (recordsOf bytes) in Holds k q d calls × (leftOf bytes d ≡ deskBehind d calls)
 
--- n after an accepted sample: Manual, freeze and velocity form end the count, an entry begins it, and one that has begun goes on
+-- E4: n after an accepted sample: Manual, freeze and velocity form end the count, an entry begins it, and one that has begun goes on
 pub record Counted (q : Plain) (r : Reading) (raw : ℕ) : Type 0 where
   pub ended : (isManual (r .mode) || r .settings .mode1 .freeze || r .settings .mode1 .velocity) ≡ true → plainAfter q r raw .n ≡ 0
   pub begins : (isManual (r .mode) || r .settings .mode1 .freeze || r .settings .mode1 .velocity) ≡ false
@@ -48,10 +48,10 @@ pub record Demand3 : Type 0 where
   pub accurate : (d : Desk) (before : List Turn) (t : Turn) (k : ℕ) → 1 ≤ k → k ≤ 16
       → Good k (fedAll k (begun (recordAt (d .numbers) k)) d before) (found (behindAll d before) t) (t .made)
   pub counted : (q : Plain) (r : Reading) (raw : ℕ) → Counted q r raw
-  -- half a count and (n + 1)/262,144 of a count: within one count for the first 131,071 samples
+  -- E6: 1/2 + (n + 1)/262,144 of a count, which is at most one count while n is at most 131,071
   pub tolerated : (n : ℕ) → tolerance n ≡ over (pos 1) 2 +ᶠ over (pos (n + 1)) 262144
   pub one-count : (n : ℕ) → n ≤ 131071 → tolerance n ≤ᶠ whole (pos 1)
-  -- turns one behind the other, with files among them: the plain loop, and so n, runs on
+  -- E1, E3: turns one behind the other, with files among them: the plain loop, and so n, runs on
   pub append : (k : ℕ) (q : Plain) (d : Desk) (xs ys : List Turn) → fedAll k q d (xs ++ ys) ≡ fedAll k (fedAll k q d xs) (behindAll d xs) ys
   pub through : (k : ℕ) (q : Plain) (d : Desk) (bytes : List ℕ) → fittingOf d ≡ true
       → fedMade k q d (file bytes) ≡ plainBehind k q d (callsOf (recordsOf bytes))

@@ -1,5 +1,5 @@
 -- What the names in the demands stand for, an equation each, so that no definition between them and the rest can change unnoticed. Left to be
--- read where they stand: the steps (`stepOf`), what a sample reads (`readingOf`), the groups of row 8, a record as numbers (`numbersOf`), the
+-- read where they stand: a sample's steps A1 to A12 (`stepOf`), what it reads (`readingOf`), the groups of N8, a record as numbers (`numbersOf`), the
 -- plain loop's sample (`plainAfter`), and the text of a line.
 use Prim.Native.Nat.{ℕ, _+_, _-_, _*_, _≤_, _<_}
 use mathlib.Core.Path.{_≡_}
@@ -28,7 +28,7 @@ use Rattle.session.specs.Session.{begun as started}
 use Rattle.session.specs.Printed.{roomFor}
 use Rattle.claims.specs.Turns.{Turn, found, behind, behindAll, fedMade, fedAll}
 
--- places: of a word in a file, of a loop's words and of its record
+-- L1, W1, H1, H4: places of a word in a file, of a loop's words and of its record
 pub record OfPlaces : Type 0 where
   pub word : (file : List ℕ) (at : ℕ) → wordAt file at ≡ getD file at 0 + 256 * getD file (at + 1) 0
   pub base : (k : ℕ) → baseOf k ≡ 32 * (k - 1)
@@ -41,7 +41,7 @@ pub record OfPlaces : Type 0 where
   pub back : (c : Carried) → recordFrom (numbersOf c) ≡ c
   pub ranges : (ns : List ℤ) → (outOfRange ns ≡ false → Rows ns) × (Rows ns → outOfRange ns ≡ false)
 
--- calls, and a file's records as calls
+-- Q1 to Q3, O2: calls, and a file's records as calls
 pub record OfCalls (d : Desk) : Type 0 where
   pub resets : (answerTo d reset ≡ resetAnswer d) × (deskAfter d reset ≡ resetLeft d)
   pub stores : (address value : ℕ) → (answerTo d (store address value) ≡ storeAnswer d address) × (deskAfter d (store address value) ≡ storeLeft d address value)
@@ -53,7 +53,7 @@ pub record OfCalls (d : Desk) : Type 0 where
   pub unread : (why : Refusal) → leftFor d (Refused why) ≡ d
   pub start : runOf (started d) [] .desk ≡ d
 
--- the plain loop of loop k beside them
+-- E3: the plain loop of loop k beside them
 pub record OfPlain (k : ℕ) (q : Plain) (d : Desk) : Type 0 where
   pub refused : (call : Call) (why : Refusal) → answerTo d call ≡ No why → fed k q d call ≡ q
   pub own : (raw : ℕ) → answerTo d (sample k raw) ≡ Accepted → fed k q d (sample k raw) ≡ plainAfter q (readingOf (d .words) k (q .state .mode)) raw
@@ -73,11 +73,11 @@ pub record Names : Type 0 where
       × ((address value : ℕ) → callsOf (Store address value ∷ xs) ≡ store address value ∷ callsOf xs)
       × ((k raw : ℕ) → callsOf (Sample k raw ∷ xs) ≡ sample k raw ∷ callsOf xs)
   pub beside : (k : ℕ) (q : Plain) (d : Desk) → OfPlain k q d
-  -- a sample: what it reads, what it comes to, and what is shown of it
+  -- Q3: a sample: what it reads, what it comes to, and what is shown of it
   pub reads : (d : Desk) (k : ℕ) → readingAt d k ≡ readingOf (d .words) k (recordAt (d .numbers) k .state .mode)
   pub steps : (d : Desk) (k raw : ℕ) → stepAt d k raw ≡ stepOf (readingAt d k) (recordAt (d .numbers) k) raw
   pub line : (ws : List ℕ) (k : ℕ) → let at : ℕ → ℕ = λ i. getD ws (baseOf k + i) 0 in lineOf ws k ≡ at 2 ∷ at 3 ∷ at 5 ∷ at 6 ∷ []
   pub shown : (ws : List ℕ) (k raw : ℕ) → shownFor ws (Sample k raw) ≡ lineOf ws k
-  -- the desk at reset; the room that a print asks for
+  -- H3: the desk at reset. Q6: the room that a print asks for
   pub fresh : resetDesk ≡ lent (replicate 1024 0) (replicate numberCount (pos 0))
   pub room : (file : List ℕ) → (length file ≤ 65536 → roomFor file ≡ 10 * length file + 100) × (65536 < length file → roomFor file ≡ 9)

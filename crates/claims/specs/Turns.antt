@@ -1,4 +1,4 @@
--- A C program's turns on a desk: it writes anything into the words, and then makes a call, perhaps with memory of the wrong length. It leaves the
+-- A C program's turns on a desk (E1): it writes anything into the words, and then makes a call, perhaps with memory of the wrong length. It leaves the
 -- numbers to the calls. The calls that only show something (`kexbardi_record`, `kexbardi_print`) change no desk, and are no turns.
 use Prim.Native.Nat.{ℕ}
 use mathlib.Core.Bool.{cond}
@@ -12,22 +12,22 @@ use Rattle.plain.specs.Plain.{Plain}
 use Rattle.session.specs.Session.{callsOf, endedOf, leftOf}
 use Rattle.kexbardi_files.specs.Files.{endedBy}
 
--- a reset, a store or a sample; or a whole drill file
+-- E1: a reset, a store or a sample; or a whole drill file
 pub data Made : Type 0 where
   one : Call → Made
   file : List ℕ → Made
 
--- the words as the caller changes them, of any length; how many of the numbers are lent (128 for a sound call); the call
+-- E1: the words as the caller changes them, of any length; how many of the numbers are lent (128 for a sound call); the call
 pub record Turn : Type 0 where
   pub outside : List ℕ → List ℕ
   pub lending : ℕ
   pub made : Made
 
--- the memory that the call is lent
+-- E1: the memory that the call is lent
 abbrev pub found : Desk → Turn → Desk
 found d t = lent (t .outside (d .words)) (take (t .lending) (d .numbers))
 
--- what the call answers, and leaves of it
+-- Q1 to Q3, Q5: what the call answers, and leaves of it
 unfoldable pub numberTo : Desk → Made → ℕ
 numberTo d (one call) = numberOf (answerTo d call)
 numberTo d (file bytes) = endedBy (endedOf bytes d) 0 0 .number
@@ -36,21 +36,21 @@ unfoldable pub madeLeft : Desk → Made → Desk
 madeLeft d (one call) = deskAfter d call
 madeLeft d (file bytes) = leftOf bytes d
 
--- the desk after the turn: the numbers that were not lent stand behind those that were
+-- E1: the desk after the turn: the numbers that were not lent stand behind those that were
 abbrev pub behind : Desk → Turn → Desk
 behind d t = let e = madeLeft (found d t) (t .made) in lent (e .words) (e .numbers ++ drop (t .lending) (d .numbers))
 
--- the desk after a list of turns
+-- E1: the desk after a list of turns
 unfoldable pub behindAll : Desk → List Turn → Desk
 behindAll d [] = d
 behindAll d (t ∷ ts) = behindAll (behind d t) ts
 
--- the plain loop of loop k after a call; a file counts as its records, where its memory has its lengths
+-- E1, E3: the plain loop of loop k after a call; a file counts as its records, where its memory has its lengths
 unfoldable pub fedMade : ℕ → Plain → Desk → Made → Plain
 fedMade k q d (one call) = fed k q d call
 fedMade k q d (file bytes) = cond (fittingOf d) (plainBehind k q d (callsOf (recordsOf bytes))) q
 
--- and after a list of turns
+-- E1, E3: and after a list of turns
 unfoldable pub fedAll : ℕ → Plain → Desk → List Turn → Plain
 fedAll k q d [] = q
 fedAll k q d (t ∷ ts) = fedAll k (fedMade k q (found d t) (t .made)) (behind d t) ts

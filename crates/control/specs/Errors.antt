@@ -1,4 +1,4 @@
--- Step 5: the error.
+-- A5: the error.
 use Prim.Native.Nat.{ℕ, _*_, _/_}
 use mathlib.Core.Bool.{Bool, cond, _&&_}
 use lib.Dec.{ltb}
@@ -6,11 +6,11 @@ use lib.IntN.{ℤ, pos, natAbs, _-ℤ_}
 use Rattle.numbers.specs.Rounding.{withSign}
 pub mod Laws
 
--- "With bit 7 it becomes e × |e| / F, toward zero"
+-- A5, error squared: the square of e over F without the fraction, with the sign of e
 unfoldable pub squaredOver : ℤ → ℕ → ℤ
 squaredOver e scale = withSign e (natAbs e * natAbs e / scale)
 
--- "Error e = s − p. … With bit 8 it is 0 where |s − p| is below the deadband; at the deadband it counts in full."
+-- A5: s − p; 0 where the deadband is on and larger than |s − p|; else squared, where that is on
 unfoldable pub errorOf : Bool → ℕ → Bool → ℕ → ℕ → ℕ → ℤ
 errorOf squared scale banded deadband s p =
     let e = pos s -ℤ pos p in

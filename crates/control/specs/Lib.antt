@@ -1,4 +1,4 @@
--- Steps 5, 7, 8 and 9 of document 01's "One accepted sample", on plain values.
+-- A5, A7, A8 and A9 on plain values.
 pub mod Errors
 pub mod Terms
 pub mod Forms

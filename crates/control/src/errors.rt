@@ -1,10 +1,10 @@
-// Step 5: the error, squared and with its deadband.
+// A5: the error, squared and with its deadband.
 ghost use mathlib.Core.Path.{_≡_};
 ghost use Prim.Native.Nat.{_<_};
 ghost use lib.IntN.{natAbs};
 ghost use Rattle.control.specs.Errors.{squaredOver, errorOf};
 
-// e × |e| / scale, toward zero.
+// The square of e over the scale without the fraction, with the sign of e.
 fn squared_over(e: i64, scale: u16) -> i64
     requires { ⌜ (natAbs e < 65536) × (0 < scale) ⌝ }
     ensures { λ r. ⌜ r ≡ squaredOver e scale ⌝ }

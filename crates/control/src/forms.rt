@@ -1,4 +1,4 @@
-// Steps 8 and 9: what a sample makes of the bias and the output, in position and in velocity form.
+// A8 and A9: what a sample makes of the bias and the output, in position and in velocity form.
 use crate::terms::Terms;
 ghost use mathlib.Core.Path.{_≡_};
 ghost use Prim.Native.Nat.{_^_, _≤_};
@@ -12,7 +12,7 @@ pub struct Drive {
     pub output: i64,
 }
 
-// Step 8 outside the limits: with freeze the bias stays, else it is taken back from the output.
+// A8 outside the limits: with freeze the bias stays, else it is taken back from the output.
 // `base` is P − D, `limit` the limit that was passed.
 fn outside(freeze: bool, drive: Drive, base: i64, limit: i64) -> Drive
     requires { ⌜ (natAbs base ≤ 2 ^ 60) × (natAbs limit ≤ 2 ^ 34) ⌝ }
@@ -31,7 +31,7 @@ fn outside(freeze: bool, drive: Drive, base: i64, limit: i64) -> Drive
     }
 }
 
-// Step 8. The limits are in units.
+// A8. The limits are in units.
 pub fn position(freeze: bool, drive: Drive, terms: Terms, low: i64, high: i64) -> Drive
     requires { ⌜ Ready drive terms low high ⌝ }
     ensures { λ r. ⌜ r ≡ positionOf freeze drive terms low high ⌝ }
@@ -51,7 +51,7 @@ pub fn position(freeze: bool, drive: Drive, terms: Terms, low: i64, high: i64) -
     }
 }
 
-// Step 9.
+// A9.
 pub fn velocity(drive: Drive, terms: Terms, low: i64, high: i64) -> Drive
     requires { ⌜ Ready drive terms low high ⌝ }
     ensures { λ r. ⌜ r ≡ velocityOf drive terms low high ⌝ }

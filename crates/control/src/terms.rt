@@ -1,4 +1,4 @@
-// Step 7: the three terms, each rounded to the nearest unit.
+// A7: the three terms, each rounded to the nearest unit.
 use table::Tuning;
 ghost use mathlib.Core.Path.{_≡_};
 ghost use mathlib.Core.Bool.{false, cond};
@@ -82,7 +82,7 @@ fn direct_terms(tuning: Tuning, minutes: bool, inputs: Inputs) -> Terms
     Terms { p, i, d }
 }
 
-// Reverse action negates all three.
+// Reverse acting changes the sign of all three.
 fn directed(reverse: bool, terms: Terms) -> Terms
     requires { ⌜ Small terms ⌝ }
     ensures { λ r. ⌜ r ≡ cond reverse (negated terms) terms ⌝ }

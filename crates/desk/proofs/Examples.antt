@@ -49,7 +49,7 @@ rows d q (x ∷ xs) =
     let q′ = fed 9 q before (x .call) in
     record { number = numberOf (answerTo before (x .call)); output = getD (after .words) (baseOf 9 + 5) 0; n = q′ .n } ∷ rows after q′ xs
 
--- loop 9's words, as those of the worked loop
+-- loop 9's words, as those of X1's loop
 set-up : List ℕ → List ℕ
 set-up ws = set (set (set (set (set (set ws 261 2000) 281 4095) 263 0x0100) 264 0x0200) 265 0x1000) 256 2
 

@@ -1,4 +1,4 @@
--- Limits: the output word of an accepted sample lies within the output limits that it read, in every form and in Manual.
+-- Limits (E2): the output word of an accepted sample lies within the output limits that it read, in every form and in Manual.
 use Prim.Native.Nat.{ℕ, _≤_}
 use native.Mathlib.Omega.{arith}
 use mathlib.Core.Bool.{Bool, true, false}

@@ -1,4 +1,4 @@
--- The starred cases of document 01, one table and one claim, computed of the definitions.
+-- The worked loop and what one changed setting makes of it (X1 to X3), one table and one claim, computed of the definitions.
 use Prim.Native.Nat.{ℕ}
 use mathlib.Core.Path.{_≡_, refl}
 use mathlib.Core.List.{List, [], _∷_, _++_, map}
@@ -54,11 +54,11 @@ run l (x ∷ xs) = run (after l x) xs
 reset : Loop
 reset = record { words = replicate 1024 0; carried = resetRecord }
 
--- lines 1 to 6 with mode 1 as given, and line 7
+-- lines 1 to 6 of X1 with mode 1 as given, and line 7
 begun : ℕ → List Call
 begun mode1 = store 5 2000 ∷ store 25 4095 ∷ store 7 256 ∷ store 8 512 ∷ store 9 4096 ∷ store 0 mode1 ∷ sample 1000 ∷ []
 
--- lines 8 and 9, and then PV 0, and then PV 1500
+-- lines 8 and 9, and then (X2) PV 0, and then PV 1500
 line9 : List Call
 line9 = store 2 1500 ∷ sample 1000 ∷ []
 
@@ -100,7 +100,7 @@ starred =
 pub given : Case → List ℕ
 given x = let words = run reset (x .calls) .words in map (λ (i : ℕ). getD words i 0) (x .offsets)
 
--- each of the thirteen cases gives the paper's numbers
+-- each of the thirteen cases gives the numbers of X1 to X3
 pub all-starred : map given starred ≡ map (λ x. x .answers) starred
 unfolding clampBy halfUp halfAway rootWithin rootOf over negᶠ roundTo bcd badDigit modeAfter mode2Of badDigits tuningOf settingsOf remoteOf readingOf squaredOver errorOf exactP exactI exactD exactTerms termsOf outsideOf positionOf velocityOf apart levelsOf statusOf resetRecord pvOf setpointOf entering heldOf startOf targetOf errorIn sensedOf pastOf positionInputs velocityInputs termsIn movedPosition movedVelocity movedOf drivenOf outputWord biasWord statusWord writtenOf nextOf stepOf writtenTo sampled after run reset begun line9 low back _gives_at_ starred given
 all-starred = refl

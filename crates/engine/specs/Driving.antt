@@ -1,4 +1,4 @@
--- What moves the output: document 01's steps 6 to 9, from where step 4 starts bias and output.
+-- What moves the output: A6 to A9, from where A4 starts bias and output.
 use Prim.Native.Nat.{ℕ, _*_}
 use mathlib.Core.Bool.{Bool, cond, not, _||_}
 use lib.IntN.{ℤ, pos, _+ℤ_, _-ℤ_}
@@ -17,31 +17,31 @@ use Rattle.carried.specs.declared.record.Carried.{Carried}
 use Rattle.engine.specs.declared.sensing.Sensed.{Sensed}
 pub mod Laws
 
--- step 4: word 5 brought to the nearer output limit
+-- A4, A10: word 5 brought inside the output limits
 unfoldable pub heldOf : Settings → ℕ
 heldOf s = clampℕ (s .stored .output) (s .limits .low) (s .limits .high)
 
--- step 4: at an entry bias and carried output become that
+-- A4: at an entry bias and carried output become that
 unfoldable pub startOf : Bool → ℕ → Drive → Drive
 startOf entry held drive = cond entry (record { bias = pos (unitsOf held); output = pos (unitsOf held) }) drive
 
--- step 6: at an entry and at the first accepted sample the terms see no change: the past is the present
+-- A6: at an entry and at the first accepted sample the past is the present, so the terms see no change
 unfoldable pub pastOf : Bool → Past → ℕ → ℤ → Past
 pastOf fresh kept p e = cond fresh (record { last = p; prior = p; error = e }) kept
 
--- step 7: what the terms act on in position form
+-- A7: what the terms act on in position form
 unfoldable pub positionInputs : Past → ℕ → ℤ → Inputs
 positionInputs past p e = record { p = e; i = e; d = pos p -ℤ pos (past .last) }
 
--- step 9: what they act on in velocity form
+-- A7: what they act on in velocity form
 unfoldable pub velocityInputs : Past → ℕ → ℤ → Inputs
 velocityInputs past p e = record { p = e -ℤ past .error; i = e; d = (pos p -ℤ pos (2 * past .last)) +ℤ pos (past .prior) }
 
--- by the form
+-- A7: by the form
 abbrev pub inputsOf : Bool → Past → ℕ → ℤ → Inputs
 inputsOf velocity past p e = cond velocity (velocityInputs past p e) (positionInputs past p e)
 
--- the terms with the loop's settings
+-- A7: the terms with the loop's settings
 unfoldable pub termsIn : Settings → Inputs → Terms
 termsIn s x = termsOf (s .tuning) (s .mode2 .minutes) (s .mode1 .reverse) x
 
@@ -51,18 +51,20 @@ lowUnits s = pos (unitsOf (s .limits .low))
 abbrev pub highUnits : Settings → ℤ
 highUnits s = pos (unitsOf (s .limits .high))
 
+-- A8 with the loop's settings
 unfoldable pub movedPosition : Settings → Drive → Past → ℕ → ℤ → Drive
 movedPosition s drive past p e = positionOf (s .mode1 .freeze) drive (termsIn s (positionInputs past p e)) (lowUnits s) (highUnits s)
 
+-- A9 with the loop's settings
 unfoldable pub movedVelocity : Settings → Drive → Past → ℕ → ℤ → Drive
 movedVelocity s drive past p e = velocityOf drive (termsIn s (velocityInputs past p e)) (lowUnits s) (highUnits s)
 
--- steps 8 and 9; Manual runs no terms and leaves bias and carried output (step 10)
+-- A8 or A9 by the form; in Manual there are no terms, and bias and carried output stay (A10)
 unfoldable pub movedOf : Settings → Bool → Drive → Past → ℕ → ℤ → Drive
 movedOf s manual drive past p e =
     cond manual drive (cond (s .mode1 .velocity) (movedVelocity s drive past p e) (movedPosition s drive past p e))
 
--- steps 6 to 9 together, `held` being word 5 inside the limits
+-- A6 to A9 together, `held` being word 5 inside the limits
 unfoldable pub drivenOf : Reading → Carried → Sensed → ℕ → Drive
 drivenOf r c x held =
     movedOf (r .settings) (isManual (r .mode)) (startOf (x .entry) held (c .drive))

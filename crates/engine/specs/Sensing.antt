@@ -1,4 +1,4 @@
--- What a sample senses: document 01's steps 1 to 5.
+-- What a sample senses: A1 to A5.
 use Prim.Native.Nat.{ℕ, _*_}
 use mathlib.Core.Bool.{Bool, cond, not, _&&_, _||_, Bool·beq}
 use lib.IntN.{ℤ}
@@ -12,29 +12,29 @@ use Rattle.carried.specs.declared.record.State.{State}
 use Rattle.engine.specs.declared.sensing.Sensed.{Sensed}
 pub mod Laws
 
--- step 1: the raw word, or with bit 6 the root of raw × F
+-- A1: the raw PV, or the root of raw PV × F
 unfoldable pub pvOf : Bool → ℕ → ℕ → ℕ
 pvOf root scale raw = cond root (rootOf (raw * scale)) raw
 
--- step 2 is `modeAfter` of the table: the reading has the resulting mode
+-- A2 is `modeAfter` of the table: the reading has the mode that it gives
 
--- step 3: word 2; in Cascade, the word at the pointer
+-- A3: word 2; in Cascade, the word at the pointer
 unfoldable pub setpointOf : Reading → ℕ
 setpointOf r = cond (isCascade (r .mode)) (r .remote) (r .settings .stored .setpoint)
 
--- step 4: an entry has a resulting mode other than Manual, and comes from Manual or from the other algorithm
+-- A4: an entry has a mode other than Manual, where the carried mode is Manual or the carried form is the other one
 unfoldable pub entering : State → Mode → Bool → Bool
 entering state mode velocity = not (isManual mode) && (isManual (state .mode) || not (Bool·beq (state .velocity) velocity))
 
--- step 4: at an entry to Automatic with Bumpless I the setpoint becomes p
+-- A4: at an entry to Automatic with Bumpless I the setpoint becomes p
 unfoldable pub targetOf : Reading → Bool → ℕ → ℕ
 targetOf r entry p = cond (entry && isAutomatic (r .mode) && not (r .settings .mode1 .bumpless)) p (setpointOf r)
 
--- step 5, with the loop's settings
+-- A5, with the loop's settings
 unfoldable pub errorIn : Settings → ℕ → ℕ → ℤ
 errorIn s target p = errorOf (s .mode1 .squared) (s .mode2 .output .scale) (s .mode1 .deadband) (s .deadband) target p
 
--- steps 1 to 5 together, from the loop's state so far: and the state after them
+-- A1 to A5 together, from the carried mode and form; and (A11) mode and form after them
 unfoldable pub sensedOf : Reading → State → ℕ → Sensed
 sensedOf r state raw =
     let s = r .settings in

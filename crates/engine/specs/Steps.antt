@@ -1,4 +1,4 @@
--- One accepted sample whole: what it senses, what moves the output, what it writes.
+-- One accepted sample whole (A1 to A12): what it senses, what moves the output, what it writes.
 use Prim.Native.Nat.{ℕ}
 use Rattle.table.specs.declared.reading.Reading.{Reading}
 use Rattle.carried.specs.declared.record.Carried.{Carried}
@@ -8,6 +8,7 @@ use Rattle.engine.specs.Driving.{heldOf, drivenOf}
 use Rattle.engine.specs.Writing.{writtenOf, nextOf}
 pub mod Laws
 
+-- A1 to A12: the words and the record that the sample leaves
 unfoldable pub stepOf : Reading → Carried → ℕ → Stepped
 stepOf r c raw =
     let x = sensedOf r (c .state) raw in

@@ -1,4 +1,4 @@
--- What a sample writes: document 01's steps 10 and 11, six words and the record that the loop carries on.
+-- What a sample writes: A10 to A12, six words and the record that the loop carries on.
 use Prim.Native.Nat.{ℕ, _+_}
 use mathlib.Core.Bool.{Bool, true, cond, _||_}
 use mathlib.Core.List.{List}
@@ -17,22 +17,22 @@ use Rattle.engine.specs.declared.sensing.Sensed.{Sensed}
 use Rattle.engine.specs.declared.writing.Written.{Written}
 pub mod Laws
 
--- step 10: in Manual word 5 inside its limits, else the output in counts, rounded halves up
+-- A10: word 5: in Manual itself inside its limits, else the carried output in the nearest count
 unfoldable pub outputWord : Bool → ℕ → ℤ → ℕ
 outputWord manual held output = cond manual held (nearestCount (natAbs output))
 
--- step 10: position form writes the bias, brought into 0 to F, in the nearest count; velocity form and Manual leave word 4
+-- A10: word 4: in position form the bias, brought inside 0 to F, in the nearest count; `kept` in velocity form and in Manual
 unfoldable pub biasWord : Bool → ℕ → ℕ → ℤ → ℕ
 biasWord kept stored scale bias = cond kept stored (nearestCount (natAbs (clampℤ bias (pos 0) (pos (unitsOf scale)))))
 
--- word 6
+-- B1 to B8: word 6, with p and s of A1 to A4 and the last PV as it was carried
 unfoldable pub statusWord : Reading → Carried → Sensed → ℕ → ℕ
 statusWord r c x output =
     let s = r .settings in
     let seen : Seen = record { pv = x .pv; setpoint = x .setpoint; last = c .past .last; sampled = c .sampled; output = output } in
     wordOf (bitsOf (statusOf (r .mode) (s .mode1) (s .alarms) (s .limits) (s .stored .status) seen))
 
--- the six words: mode 1 with its requests cleared (step 2), setpoint (3, 4), PV (11), bias and output (10), status
+-- A12: the six words: mode 1 with its requests off (A2), setpoint (A3, A4), PV (A11), bias and output (A10), status (B1 to B8)
 unfoldable pub writtenOf : Reading → Carried → Sensed → ℕ → Drive → Written
 writtenOf r c x held drive =
     let s = r .settings in
@@ -46,7 +46,7 @@ writtenOf r c x held drive =
       status = statusWord r c x output;
     }
 
--- and where they go: words 0, 2, 3, 4, 5 and 6 of the loop at `base`
+-- A12: and where they go: words 0, 2, 3, 4, 5 and 6 of the loop at `base`
 unfoldable pub writtenTo : List ℕ → ℕ → Written → List ℕ
 writtenTo ws base w =
     set
@@ -57,7 +57,7 @@ writtenTo ws base w =
     (base + 6)
     (w .status)
 
--- step 11, in every mode: the last PV moves to the one before (p at the first accepted sample), p becomes the last, error and algorithm are recorded
+-- A11, in every mode: mode and form of this sample, the PV before (p at the first accepted sample), the last PV, the error, and that one was accepted
 unfoldable pub nextOf : Carried → Sensed → Drive → Carried
 nextOf c x drive = record {
   state = x .state;

@@ -1,4 +1,4 @@
-// What moves the output (steps 6 to 9): where bias and output start, what counts as the past, the terms, and
+// What moves the output (A6 to A9): where bias and output start, what counts as the past, the terms, and
 // the two forms.
 use crate::sensing::Sensed;
 use carried::Carried;
@@ -16,14 +16,14 @@ ghost use Rattle.control.specs.Premises.{Tuned, Bounded};
 ghost use Rattle.engine.specs.Driving.{heldOf, startOf, pastOf, positionInputs, velocityInputs, inputsOf, termsIn, movedOf, drivenOf};
 ghost use Rattle.engine.specs.Premises.{Movable, Drivable};
 
-// Step 4: word 5 brought to the nearer output limit.
+// A4, A10: word 5 brought inside the output limits.
 pub(crate) fn held_word(s: Settings) -> u16
     ensures { λ r. ⌜ r ≡ heldOf s ⌝ }
 {
     numbers::clamp_word(s.stored.output, s.limits.low, s.limits.high)
 }
 
-// Step 4: bias and output to start from.
+// A4: bias and output to start from.
 fn started(entry: bool, held: u16, drive: Drive) -> Drive
     ensures { λ r. ⌜ r ≡ startOf entry held drive ⌝ }
 {
@@ -38,7 +38,7 @@ fn started(entry: bool, held: u16, drive: Drive) -> Drive
     }
 }
 
-// Step 6: what counts as the past for the terms.
+// A6: what counts as the past for the terms.
 fn past_for(fresh: bool, kept: Past, pv: u16, error: i64) -> Past
     ensures { λ r. ⌜ r ≡ pastOf fresh kept pv error ⌝ }
 {
@@ -53,7 +53,7 @@ fn past_for(fresh: bool, kept: Past, pv: u16, error: i64) -> Past
     }
 }
 
-// The terms of a sample with the loop's settings.
+// A7: the terms of a sample with the loop's settings.
 fn terms_in(s: Settings, inputs: Inputs) -> Terms
     requires { ⌜ Tuned (s .tuning) × Bounded inputs ⌝ }
     ensures { λ r. ⌜ r ≡ termsIn s inputs ⌝ }
@@ -100,7 +100,7 @@ fn inputs_for(velocity: bool, past: Past, pv: u16, e: i64) -> Inputs
     }
 }
 
-// Steps 7 to 9: the bias and output after the sample. Manual runs no terms.
+// A7 to A9: the bias and output after the sample. In Manual there are no terms (A10).
 fn moved(s: Settings, manual: bool, drive: Drive, past: Past, pv: u16, e: i64) -> Drive
     requires { ⌜ Movable s drive past pv e ⌝ }
     ensures { λ r. ⌜ r ≡ movedOf s manual drive past pv e ⌝ }
@@ -118,7 +118,7 @@ fn moved(s: Settings, manual: bool, drive: Drive, past: Past, pv: u16, e: i64) -
     }
 }
 
-// Steps 6 to 9: the bias and output after the sample. `held` is word 5 inside the limits.
+// A6 to A9: the bias and output after the sample. `held` is word 5 inside the limits.
 pub(crate) fn driven(reading: Reading, carried: Carried, sensed: Sensed, held: u16) -> Drive
     requires { ⌜ Drivable reading carried sensed held ⌝ }
     ensures { λ r. ⌜ r ≡ drivenOf reading carried sensed held ⌝ }

@@ -1,4 +1,4 @@
-// The engine: one accepted sample of one loop, on what it read and on the loop's carried record.
+// The engine: one accepted sample (A1 to A12) of one loop, on what it read and on the loop's carried record.
 mod driving;
 mod sensing;
 mod stepping;

@@ -1,4 +1,4 @@
-// What a sample senses (steps 1 to 5): the PV, the mode, whether the sample is an entry, the setpoint and
+// What a sample senses (A1 to A5): the PV, the mode, whether the sample is an entry, the setpoint and
 // the error.
 use carried::State;
 use table::Mode;
@@ -20,7 +20,7 @@ pub struct Sensed {
     pub state: State,
 }
 
-// Step 1: the PV, or the root of it.
+// A1: the PV, or the root of it.
 fn measured(root: bool, scale: u16, raw: u16) -> u16
     ensures { λ r. ⌜ r ≡ pvOf root scale raw ⌝ }
 {
@@ -31,7 +31,7 @@ fn measured(root: bool, scale: u16, raw: u16) -> u16
     }
 }
 
-// Step 3: the setpoint.
+// A3: the setpoint.
 fn own_setpoint(reading: Reading) -> u16
     ensures { λ r. ⌜ r ≡ setpointOf reading ⌝ }
 {
@@ -44,7 +44,7 @@ fn own_setpoint(reading: Reading) -> u16
     }
 }
 
-// Step 4: whether the sample enters automatic working.
+// A4: whether the sample is an entry.
 fn enters(state: State, mode: Mode, velocity: bool) -> bool
     ensures { λ r. ⌜ r ≡ entering state mode velocity ⌝ }
 {
@@ -54,7 +54,7 @@ fn enters(state: State, mode: Mode, velocity: bool) -> bool
     !is & (was | (state.velocity != velocity))
 }
 
-// Steps 3 and 4: the setpoint, forced to the PV at an entry to Automatic with Bumpless I.
+// A3 and A4: the setpoint, forced to the PV at an entry to Automatic with Bumpless I.
 fn target_of(reading: Reading, entry: bool, pv: u16) -> u16
     ensures { λ r. ⌜ r ≡ targetOf reading entry pv ⌝ }
 {
@@ -67,7 +67,7 @@ fn target_of(reading: Reading, entry: bool, pv: u16) -> u16
     }
 }
 
-// Step 5 with the loop's settings.
+// A5 with the loop's settings.
 fn error_in(s: Settings, target: u16, pv: u16) -> i64
     requires { ⌜ 0 < s .mode2 .output .scale ⌝ }
     ensures { λ r. ⌜ r ≡ errorIn s target pv ⌝ }
@@ -82,7 +82,7 @@ fn error_in(s: Settings, target: u16, pv: u16) -> i64
     )
 }
 
-// Steps 1 to 5, from the loop's state so far.
+// A1 to A5, from the carried mode and form.
 pub(crate) fn sensed_by(reading: Reading, state: State, raw: u16) -> Sensed
     requires { ⌜ 0 < reading .settings .mode2 .output .scale ⌝ }
     ensures { λ r. ⌜ r ≡ sensedOf reading state raw ⌝ }

@@ -1,4 +1,4 @@
-// What a sample writes (steps 10 and 11): six words, and the record that the loop carries on.
+// What a sample writes (A10 to A12): six words, and the record that the loop carries on.
 use crate::sensing::Sensed;
 use alarms::Seen;
 use carried::Carried;
@@ -20,7 +20,7 @@ ghost use Rattle.table.specs.Words.{baseOf};
 ghost use Rattle.engine.specs.Writing.{outputWord, biasWord, statusWord, writtenOf, nextOf, writtenTo};
 ghost use Rattle.engine.specs.Premises.{Counted};
 
-// The words that a sample writes: 0, 2, 3, 4, 5 and 6.
+// A12: the words that a sample writes: 0, 2, 3, 4, 5 and 6.
 pub struct Written {
     pub word: u16,
     pub setpoint: u16,
@@ -30,7 +30,7 @@ pub struct Written {
     pub status: u16,
 }
 
-// Step 10: word 5.
+// A10: word 5.
 fn output_word(manual: bool, held: u16, drive: Drive) -> u16
     requires { ⌜ Counted (drive .output) ⌝ }
     ensures { λ r. ⌜ r ≡ outputWord manual held (drive .output) ⌝ }
@@ -42,7 +42,7 @@ fn output_word(manual: bool, held: u16, drive: Drive) -> u16
     }
 }
 
-// Step 10: word 4. `kept` where nothing writes it.
+// A10: word 4. `kept` where nothing writes it.
 fn bias_word(kept: bool, stored: u16, scale: u16, drive: Drive) -> u16
     ensures { λ r. ⌜ r ≡ biasWord kept stored scale (drive .bias) ⌝ }
 {
@@ -53,7 +53,7 @@ fn bias_word(kept: bool, stored: u16, scale: u16, drive: Drive) -> u16
     }
 }
 
-// Step 11: what is recorded.
+// A11: what is recorded.
 pub(crate) fn next_record(carried: Carried, sensed: Sensed, drive: Drive) -> Carried
     ensures { λ r. ⌜ r ≡ nextOf carried sensed drive ⌝ }
 {
@@ -78,7 +78,7 @@ fn earlier(sampled: bool, last: u16, pv: u16) -> u16
     if sampled { last } else { pv }
 }
 
-// Word 6.
+// B1 to B8: word 6.
 fn status_after(reading: Reading, carried: Carried, sensed: Sensed, output: u16) -> u16
     ensures { λ r. ⌜ r ≡ statusWord reading carried sensed output ⌝ }
 {

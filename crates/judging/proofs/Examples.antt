@@ -1,5 +1,5 @@
--- Refusals 7, 8 and 9 computed of the definitions: each number of a setting on both sides of its edge, several conditions at once, and the rows'
--- own examples.
+-- Refusals N7, N8 and N9 computed of the definitions: each number of a setting on both sides of its edge, several conditions at once, and the
+-- examples of the three rules.
 use Prim.Native.Nat.{ℕ}
 use mathlib.Core.Path.{_≡_, refl}
 use mathlib.Core.List.{List, [], _∷_, map}
@@ -17,7 +17,7 @@ pub record Case : Type 0 where
   pub raw : ℕ
   pub number : ℕ
 
--- the worked loop's settings, and some free words behind the loop's
+-- the settings of X1's loop, and some free words behind the loop's
 worked : List ℕ
 worked = set (set (set (set (set (set (replicate 64 0) 0 2) 5 2000) 7 0x0100) 8 0x0200) 9 0x1000) 25 4095
 

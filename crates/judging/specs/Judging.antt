@@ -1,4 +1,4 @@
--- Refusals 7, 8 and 9 of a sample, by what it read. The settings of 8 stand in four groups.
+-- Refusals N7, N8 and N9 of a sample, by what it read. The settings of N8 stand in four groups.
 use Prim.Native.Nat.{ℕ}
 use mathlib.Core.Path.{_≡_}
 use mathlib.Core.Bool.{Bool, false, not, _&&_, _||_}
@@ -13,8 +13,7 @@ use Rattle.table.specs.declared.reading.Reading.{Reading}
 use Rattle.table.specs.Modes.{isCascade}
 pub mod Laws
 
--- velocity form together with Bumpless II; bits 9 and 11 of mode 1, and the bits of mode 2 that have to be 0; a hysteresis outside 1 to 200 where
--- bit 12 or 13 is set
+-- N8: velocity form together with Bumpless II; a mode bit that has to be off; a hysteresis outside 1 to 200 where PV or deviation is watched
 abbrev pub badModes : Mode1 → Bool → ℕ → Bool
 badModes bits unused hysteresis =
     (bits .velocity && bits .bumpless)
@@ -23,19 +22,19 @@ badModes bits unused hysteresis =
     || unused
     || ((bits .level || bits .deviation) && (ltb hysteresis 1 || ltb 200 hysteresis))
 
--- period below 0.05 s; reset 0
+-- N8: a period below 0.05 s, or a reset time of 0.00
 abbrev pub badTimes : Tuning → Bool
 badTimes t = ltb (t .period) 5 || eqb (t .reset) 0
 
--- output low above high, or high above full scale
+-- N8: the low output limit above the high one, or that above F
 abbrev pub badLimits : OutputLimits → ℕ → Bool
 badLimits limits scale = ltb (limits .high) (limits .low) || ltb scale (limits .high)
 
--- outside Cascade the setpoint above full scale; in Cascade the pointer above 1,023, or the word there above full scale
+-- N8: word 2 above F; in Cascade, in its place, word 26 above 1,023, or a word above F at that address
 abbrev pub badSetpoint : Bool → ℕ → ℕ → ℕ → ℕ → Bool
 badSetpoint cascade scale setpoint pointer remote = (not cascade && ltb scale setpoint) || (cascade && (ltb 1023 pointer || ltb scale remote))
 
--- 7; 8 by its groups; 9
+-- O3: N7; N8 by its groups; N9
 abbrev pub readingCases : Reading → ℕ → List Case
 readingCases r raw =
     let s = r .settings in
@@ -48,7 +47,7 @@ readingCases r raw =
     ∷ (ltb scale raw ⇒ Above)
     ∷ []
 
--- none of them holds
+-- O3: none of them holds
 pub record Passed (r : Reading) (raw : ℕ) : Type 0 where
   pub digit : r .settings .baddigit ≡ false
   pub modes : badModes (r .settings .mode1) (r .settings .mode2 .unused) (r .settings .alarms .hysteresis) ≡ false

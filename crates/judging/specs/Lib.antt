@@ -1,2 +1,2 @@
--- Refusals 7, 8 and 9 of a sample, in the order of document 01's table.
+-- Refusals N7, N8 and N9 of a sample, in this order (O3).
 pub mod Judging

@@ -1,4 +1,4 @@
--- What the exported functions on drill files answer and leave: the session's own definitions, as numbers.
+-- What the exported functions on drill files answer and leave (Q5, Q6): the session's own definitions, as numbers.
 use Prim.Native.Nat.{ℕ}
 use mathlib.Core.Bool.{cond}
 use mathlib.Core.List.{List}
@@ -22,12 +22,12 @@ pub record Ran : Type 0 where
 abbrev pub ended : ℕ → ℕ → ℕ → Ran
 ended number count refused = record { number = number; count = count; refused = refused }
 
--- by how the session ended; where it stopped the counts stay
+-- Q5: by how the session ended; where it stopped the counts stay (Q8)
 abbrev pub endedBy : Ended → ℕ → ℕ → Ran
 endedBy (Stopped why) count refused = ended (numberOfRefusal why) count refused
 endedBy (Counts n m) count refused = ended 0 n m
 
--- the buffer of the answers: from its start on, as far as there is room
+-- Q5: the buffer of the answers, from its start on, as far as there is room
 abbrev pub answersLeft : List ℕ → Desk → List ℕ → List ℕ
 answersLeft file d answers = sets answers 0 (answersOf file d)
 
@@ -41,9 +41,10 @@ pub record Printed : Type 0 where
 abbrev pub printed : ℕ → List ℕ → ℕ → Printed
 printed number out size = record { number = number; out = out; length = size }
 
--- by the text: it is never empty where there is room (`claims/proofs/Demand1.printed-some`)
+-- Q6: N5 where there is no text: it is never empty where there is room (`claims/proofs/Demand1.printed-some`)
 abbrev pub printedBy : List ℕ → List ℕ → ℕ → Printed
 printedBy text out size = cond (eqb (length text) 0) (printed 5 out size) (printed 0 (sets out 0 text) (length text))
 
+-- Q6: the answer, the room lent and the length after a print
 unfoldable pub printLeft : List ℕ → List ℕ → ℕ → Printed
 printLeft file out size = printedBy (printedWithin (length out) file) out size

@@ -1,4 +1,4 @@
--- The lines that the program prints: document 01, "The drill program and its worked loop".
+-- The lines that `drill` prints (L9, L10).
 use Prim.Native.Nat.{ℕ}
 use mathlib.Core.Bool.{cond}
 use mathlib.Core.List.{List, [], _++_}
@@ -8,15 +8,15 @@ use Rattle.text.specs.Text.{bytes, decimalOf, hexOf}
 use Rattle.reader.specs.declared.Record.{Record}
 use Rattle.reader.specs.declared.Record.the-variants.{Store, Sample, Refused}
 
--- a word, with the spaces around it, and a decimal number
+-- L9: a word, with the spaces around it, and a decimal number
 abbrev pub fieldText : List ℕ → ℕ → List ℕ
 fieldText word n = word ++ decimalOf n
 
--- a store: address and value
+-- L9: a store: address and value
 abbrev pub setText : ℕ → ℕ → List ℕ
 setText address value = fieldText (bytes " set ") address ++ fieldText (bytes " ") value
 
--- a sample: the loop's number, and what is shown of it: setpoint, PV, output, and the status in hexadecimal
+-- L9: a sample: the loop's number, and what is shown of it: setpoint, PV, output, and the status in hexadecimal
 abbrev pub loopText : ℕ → List ℕ → List ℕ
 loopText k shown =
     fieldText (bytes " loop ") k
@@ -25,24 +25,24 @@ loopText k shown =
     ++ fieldText (bytes " out ") (getD shown 2 0)
     ++ (bytes " word " ++ hexOf (getD shown 3 0))
 
--- a refusal
+-- L9: a refusal
 abbrev pub refusedText : ℕ → List ℕ
 refusedText number = fieldText (bytes " refused ") number
 
--- a record that is carried out. One that the reader refuses never is
+-- L9: a record that is carried out. One that the reader refuses never is
 abbrev pub acceptedText : Record → List ℕ → List ℕ
 acceptedText (Store address value) shown = setText address value
 acceptedText (Sample k raw) shown = loopText k shown
 acceptedText (Refused why) shown = []
 
--- a record with the number of its answer
+-- L9: a record with the number of its answer
 abbrev pub saidText : Record → ℕ → List ℕ → List ℕ
 saidText x number shown = cond (eqb number 0) (acceptedText x shown) (refusedText number)
 
--- the line of the n-th record
+-- L9: the line of the n-th record
 unfoldable pub lineText : ℕ → Record → ℕ → List ℕ → List ℕ
 lineText n x number shown = decimalOf n ++ saidText x number shown ++ bytes "\n"
 
--- the last line, which counts the records and those of them that were refused
+-- L10: the last line, which counts the records and those of them that were refused
 unfoldable pub lastText : ℕ → ℕ → List ℕ
 lastText n m = decimalOf n ++ bytes " records, " ++ decimalOf m ++ bytes " refused\n"

@@ -1,4 +1,4 @@
-// The lines that the program `drill` prints, written into a lent buffer.
+// The lines that the program `drill` prints (L9, L10), written into a lent buffer.
 //
 // Each function writes its text at a place and answers the place behind it.
 use reader::Record;

@@ -1,4 +1,4 @@
--- Fractions: a whole numerator over a whole denominator above 0, never reduced, compared multiplied out.
+-- Fractions, in which the exact loop (E3) reckons. They are never reduced, and two of them are compared by cross products.
 use mathlib.Core.Bool.{Bool}
 use Prim.Native.Nat.{ℕ, _*_, _<_, max}
 use native.Mathlib.Omega.{arith}
@@ -55,11 +55,11 @@ pub record _≈ᶠ_ (x y : Fraction) : Type 0 where
   pub most : x ≤ᶠ y
   pub least : y ≤ᶠ x
 
--- |x − y| ≤ r
+-- E6: |x − y| ≤ r
 pub record Near (r x y : Fraction) : Type 0 where
   pub most : x ≤ᶠ y +ᶠ r
   pub least : y ≤ᶠ x +ᶠ r
 
--- x in the nearest of u parts of one, halves away from zero
+-- A7: x in the nearest of u parts of one, a half away from zero
 unfoldable pub roundTo : ℕ → Fraction → ℤ
 roundTo u x = halfAway (pos u *ℤ x .num) (x .den)

@@ -1,4 +1,4 @@
--- A number brought to the nearer of two limits: itself inside them, else the limit that it passed.
+-- A number brought inside two limits, as A4 says it: itself where it is inside, else the limit that it passed.
 use mathlib.Core.Bool.{Bool, cond}
 use Prim.Native.Nat.{ℕ}
 use lib.Dec.{ltb}
@@ -6,7 +6,7 @@ use lib.IntN.{ℤ}
 use lib.Signed.{ltZ}
 pub mod Laws
 
--- for numbers of any kind, by the test `below` of their order
+-- A4: below the low limit that limit, above the high one the high one. For numbers of any kind, by the test `below` of their order
 unfoldable pub clampBy : {A : Type 0} → (A → A → Bool) → A → A → A → A
 clampBy below x lo hi = cond (below x lo) lo (cond (below hi x) hi x)
 

@@ -1,4 +1,4 @@
-// A number brought to the nearer of two limits.
+// A number brought inside two limits (A4).
 ghost use mathlib.Core.Path.{_≡_};
 ghost use Rattle.numbers.specs.Limits.{clampℕ, clampℤ};
 

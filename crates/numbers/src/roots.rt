@@ -2,7 +2,7 @@
 ghost use mathlib.Core.Path.{_≡_};
 ghost use Rattle.numbers.specs.Roots.{rootOf};
 
-// The greatest r with r × r at most v, a binary digit a round: v is at least the square of `low`
+// A1: the root of v, a binary digit a round. At each round v is at least the square of `low`
 // and below that of `low + step`.
 pub fn root(v: u32) -> u16
     ensures { λ r. ⌜ r ≡ rootOf v ⌝ }

@@ -1,4 +1,4 @@
-// Quotients rounded to whole numbers, and counts in units of 1/262,144.
+// Quotients rounded to whole numbers (A7, A10), and counts in units (H2).
 use crate::signed::magnitude;
 use crate::signed::to_signed;
 use crate::signed::to_unsigned;
@@ -12,7 +12,7 @@ ghost use Rattle.numbers.specs.Rounding.{halfUp, halfAway, unitsOf, near
 // Units of a count.
 pub const UNITS: u64 = 262144;
 
-// n / d to the nearest, halves up.
+// A10: n / d to the nearest, a half up.
 pub fn half_up(n: u64, d: u64) -> u64
     requires { ⌜ (n < 2 ^ 62) × ((0 < d) × (d < 2 ^ 62)) ⌝ }
     ensures { λ r. ⌜ r ≡ halfUp n d ⌝ }
@@ -20,7 +20,7 @@ pub fn half_up(n: u64, d: u64) -> u64
     (2 * n + d) / (2 * d)
 }
 
-// z / d to the nearest, halves away from zero.
+// A7: z / d to the nearest, a half away from zero.
 pub fn half_away(z: i64, d: u64) -> i64
     requires { ⌜ (natAbs z < 2 ^ 62) × ((0 < d) × (d < 2 ^ 62)) ⌝ }
     ensures { λ r. ⌜ r ≡ halfAway z d ⌝ }
@@ -28,7 +28,7 @@ pub fn half_away(z: i64, d: u64) -> i64
     with_sign(z, half_up(magnitude(z), d))
 }
 
-// k × z / d to the nearest, halves away from zero.
+// A7: k × z / d to the nearest, a half away from zero.
 pub fn scaled(k: u64, z: i64, d: u64) -> i64
     requires { ⌜ (k < 2 ^ 62) × ((k * natAbs z < 2 ^ 62) × ((0 < d) × (d < 2 ^ 62))) ⌝ }
     ensures { λ r. ⌜ r ≡ halfAway (pos k *ℤ z) d ⌝ }
@@ -43,7 +43,7 @@ pub fn units(count: u16) -> i64
     to_signed((count as u64) * UNITS)
 }
 
-// Units in the nearest count, halves up.
+// A10: units in the nearest count, a half up.
 pub fn nearest_count(x: i64) -> u16
     requires { ⌜ (pos 0 ≤ℤ x) × (x ≤ℤ pos (unitsOf 65535)) ⌝ }
     ensures { λ r. ⌜ r ≡ nearestCount (natAbs x) ⌝ }

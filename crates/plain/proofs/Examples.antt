@@ -58,7 +58,7 @@ expected x = record { word = x .word; n = x .n; exact = true }
 pub from-reset : List Sample → List Row
 from-reset xs = rows (replicate 64 0) resetRecord (begun resetRecord) xs
 
--- ---- the worked loop: lines 7 and 9, then PV 0 and PV 1,500
+-- ---- the worked loop: lines 7 and 9 of X1, then PV 0 and PV 1,500 as in X2
 
 counts : ℕ → Fraction
 counts n = whole (pos n)
@@ -78,7 +78,7 @@ loopA =
     ∷ record { write = kept; raw = 1500; word = 1095; n = 4; exact = counts 1095 }
     ∷ []
 
--- ---- velocity (bit 5), Manual (request 0) and freeze (bit 10) set n to 0; only an entry starts it again. The PV stands on the setpoint
+-- ---- E4: velocity (bit 5), Manual (request 0) and freeze (bit 10) set n to 0; only an entry starts it again. The PV stands on the setpoint
 
 mode : ℕ → ℕ → Sample
 mode bits n = record { write = λ ws. set ws 0 bits; raw = 1000; word = 2000; n = n; exact = counts 2000 }

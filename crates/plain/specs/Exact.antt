@@ -1,4 +1,4 @@
--- The exact position form of demand 3, in fractions of a count: step 8 on the terms of step 7 before rounding.
+-- The exact position form (E5), in fractions of a count: A8 on the terms of A7 before rounding.
 use Prim.Native.Nat.{ℕ}
 use lib.IntN.{ℤ, pos}
 use Rattle.numbers.specs.Fractions.{Fraction, over, whole, _+ᶠ_, _-ᶠ_, clampᶠ}
@@ -9,14 +9,14 @@ pub mod Laws
 abbrev pub inCounts : ℤ → Fraction
 inCounts z = over z 262144
 
--- m = P − D + B + I
+-- E5: m
 unfoldable pub exactSum : Fraction → Exact → Fraction
 exactSum B t = (t .p -ᶠ t .d) +ᶠ (B +ᶠ t .i)
 
--- the output is m inside its limits
+-- E5: the exact output is m inside the output limits
 unfoldable pub exactOutput : ℕ → ℕ → Fraction → Exact → Fraction
 exactOutput low high B t = clampᶠ (exactSum B t) (whole (pos low)) (whole (pos high))
 
--- and B becomes that output − (P − D)
+-- E5: B after it is that output less P − D
 unfoldable pub exactBias : Fraction → Exact → Fraction
 exactBias output t = output -ᶠ (t .p -ᶠ t .d)

@@ -1,3 +1,3 @@
--- Demand 3's exact loop beside the engine: its arithmetic in fractions, and the plain loop itself.
+-- The exact loop of E3 beside the engine, here called the plain loop: its arithmetic in fractions, and the loop itself.
 pub mod Exact
 pub mod Plain

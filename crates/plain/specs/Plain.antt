@@ -1,5 +1,5 @@
--- The plain loop of demand 3: the exact output, in fractions, beside the engine. It is fed the reading and the raw PV of each accepted sample of
--- its loop, and no number that the engine carries.
+-- The plain loop is the exact loop of E3: the exact output, in fractions, beside the engine. It is fed the reading and the raw PV of each accepted
+-- sample of its loop, and no number that the engine carries.
 use Prim.Native.Nat.{ℕ, zero, suc, _+_}
 use mathlib.Core.Bool.{Bool, true, false, cond, _||_}
 use lib.IntN.{ℤ, pos, _-ℤ_}
@@ -15,7 +15,7 @@ use Rattle.engine.specs.Driving.{heldOf}
 use Rattle.plain.specs.Exact.{inCounts, exactOutput, exactBias}
 pub mod Laws
 
--- the loop's state (mode and algorithm), the last PV, the exact bias B, the count n, and the last exact output
+-- E3: mode and form (its state), the last PV, the bias B, the number n, and the last exact output
 pub record Plain : Type 0 where
   pub state : State
   pub last : ℕ
@@ -23,23 +23,23 @@ pub record Plain : Type 0 where
   pub n : ℕ
   pub output : Fraction
 
--- at the start its state is that of the loop's first carried record, and n is 0
+-- E3: at the start mode and form are those of the loop's record, and n is 0
 unfoldable pub begun : Carried → Plain
 begun c = record { state = c .state; last = 0; B = whole (pos 0); n = 0; output = whole (pos 0) }
 
--- Manual, freeze and velocity form (the first argument) end the count; else an entry begins it, and an n that has begun goes up by 1
+-- E4: n after a sample in Manual, with freeze or in velocity form (the first argument true), at an entry, and at any other
 unfoldable pub countAfter : Bool → Bool → ℕ → ℕ
 countAfter true entry n = 0
 countAfter false true n = 1
 countAfter false false zero = 0
 countAfter false false (suc n) = suc (suc n)
 
--- what the terms act on
+-- E5: what the terms act on, as in position form
 abbrev pub inputsOf : ℕ → ℕ → ℤ → Inputs
 inputsOf last p e = record { p = e; i = e; d = pos p -ℤ pos last }
 
--- where n is now above 0: the exact terms, the exact output, and B after it. `start` and `last` are B and the last PV to start from. The state
--- and p are kept after every accepted sample
+-- E5: where n is now above 0, the exact terms, the exact output, and B after it; `start` and `last` are B and the last PV to start from. Where n is
+-- 0, B stays: the next entry sets it before it counts. Mode, form and p are kept whatever n is
 unfoldable pub movedBy : ℕ → Plain → Reading → State → Fraction → ℕ → ℕ → ℤ → Plain
 movedBy zero q r state start last p e = record { state = state; last = p; B = q .B; n = 0; output = q .output }
 movedBy (suc n) q r state start last p e =
@@ -48,8 +48,8 @@ movedBy (suc n) q r state start last p e =
     let output = exactOutput (s .limits .low) (s .limits .high) start terms in
     record { state = state; last = p; B = exactBias output terms; n = suc n; output = output }
 
--- an accepted sample of its loop: PV, setpoint and error as steps 1 to 5 give them from its own state. An entry starts B at word 5 inside its
--- limits, and the last PV at the present one
+-- E3 to E5: an accepted sample of its loop. p, s and e are those of A1 to A5 from its own mode and form; an entry starts B at word 5 inside its
+-- limits, and the last PV at p
 unfoldable pub plainAfter : Plain → Reading → ℕ → Plain
 plainAfter q r raw =
     let s = r .settings in
@@ -57,6 +57,6 @@ plainAfter q r raw =
     let n = countAfter (isManual (r .mode) || s .mode1 .freeze || s .mode1 .velocity) (x .entry) (q .n) in
     movedBy n q r (x .state) (cond (x .entry) (whole (pos (heldOf s))) (q .B)) (cond (x .entry) (x .pv) (q .last)) (x .pv) (x .error)
 
--- half a count and (n + 1)/262,144 of a count
+-- E6: 1/2 + (n + 1)/262,144 of a count
 unfoldable pub tolerance : ℕ → Fraction
 tolerance n = over (pos 1) 2 +ᶠ inCounts (pos (n + 1))

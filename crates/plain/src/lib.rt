@@ -1,1 +1,1 @@
-// The plain loop of demand 3: definitions and proofs alone, no code.
+// The plain loop, which is the exact loop of E3: definitions and proofs alone, no code.

@@ -1,4 +1,4 @@
--- The examples of document 01's table and the readings decided beside it, computed of the definitions.
+-- The examples of N1 to N3, and the edges of L5 to L7, computed of the definitions.
 use Prim.Native.Nat.{ℕ}
 use mathlib.Core.Path.{_≡_, refl}
 use mathlib.Core.List.{List, [], _∷_, map, flatten}
@@ -12,7 +12,7 @@ pub record Case : Type 0 where
   pub bytes : List ℕ
   pub item : Record
 
--- sound records; refusal 2 by the length, by the kind and by the kind's high byte; 3 with no body and with a short one; 1
+-- sound records; N2 by the length, by the kind and by the kind's high byte; N3 with no body and with a short one; N1
 abbrev pub cases : List Case
 cases =
     record { bytes = 0x06 ∷ 0x00 ∷ 0x01 ∷ 0x00 ∷ 0x03 ∷ 0x00 ∷ 0x05 ∷ 0x01 ∷ []; item = Store 3 261 }

@@ -1,4 +1,4 @@
--- A drill file as its records: document 01, "Drill file", sentence by sentence. A file is a list of bytes.
+-- A drill file as its records (L1 to L8). A file is a list of bytes.
 -- The laws of these definitions are in `File/Laws`.
 use Prim.Native.Nat.{ℕ, zero, suc, _+_, _*_, _-_}
 use mathlib.Core.Bool.{Bool, cond, not, _||_}
@@ -12,44 +12,43 @@ use Rattle.reader.specs.declared.Record.the-variants.{Store, Sample, Ref
 use Rattle.reader.specs.declared.Step.{Step}
 pub mod Laws
 
--- "two bytes, little-endian"
+-- L1: a number of two bytes, the low one first
 abbrev pub wordAt : List ℕ → ℕ → ℕ
 wordAt s at = getD s at 0 + 256 * getD s (at + 1) 0
 
--- "Kind 1 stores: address, value, two bytes each, little-endian". The kind stands at `at`
+-- L3: a store is address and value behind the kind, which stands at `at`
 abbrev pub storeAt : List ℕ → ℕ → Record
 storeAt s at = Store (wordAt s (at + 2)) (wordAt s (at + 4))
 
--- "Kind 2 samples: loop (one byte), raw PV (two bytes)"
+-- L4: a sample is the loop in one byte and the raw PV
 abbrev pub sampleAt : List ℕ → ℕ → Record
 sampleAt s at = Sample (getD s (at + 2) 0) (wordAt s (at + 3))
 
--- refusal 2: "length below 2, or kind neither 1 nor 2". n is the length
+-- N2, L6: the length n leaves no room for a kind, or the kind is unknown
 abbrev pub noKind : List ℕ → ℕ → ℕ → Bool
 noKind s at n = ltb n 2 || not (eqb (wordAt s at) 1 || eqb (wordAt s at) 2)
 
--- refusal 3: "length not the kind's"
+-- N3, L7: the length n is not m, that of the kind
 abbrev pub ofLength : ℕ → ℕ → Record → Record
 ofLength m n item = cond (eqb n m) item (Refused Length)
 
--- what stands behind a length: "kind (two bytes, little-endian), body". A store has "length 6", a sample "length 5"
+-- L2, O2: what the bytes behind a length are, by their kind. A store has length 6 (L3), a sample 5 (L4)
 abbrev pub wholeAt : List ℕ → ℕ → ℕ → Record
 wholeAt s at n =
     cond (noKind s at n) (Refused Kind)
     (cond (eqb (wordAt s at) 1) (ofLength 6 n (storeAt s at)) (ofLength 5 n (sampleAt s at)))
 
--- refusal 1: "one byte remains in place of a length, or fewer stand behind it than it says"
+-- N1, L5: there is no whole length, or less behind it than it asks for
 abbrev pub isCut : List ℕ → ℕ → Bool
 isCut s at = ltb (length s - at) 2 || ltb (length s - at - 2) (wordAt s at)
 
--- the record at a position, and the position behind it: "length (two bytes, little-endian, counts what follows it)".
--- Refusal 1 "ends the file". "A refused record is skipped by its length."
+-- L8, O2: the record at a position, and the position behind its bytes, by its own length. A cut one reaches to the end of the file (L5)
 unfoldable pub recordAt : List ℕ → ℕ → Step
 recordAt s at =
     cond (isCut s at) (record { item = Refused Cut; next = length s })
     (record { item = wholeAt s (at + 2) (wordAt s at); next = at + 2 + wordAt s at })
 
--- the positions of the records from a position on, each behind the record before. No bytes left: the end.
+-- L8: the positions of the records from a position on, each behind the record before. No bytes left: the end.
 -- `limit` bounds their number; the number of bytes left is enough
 unfoldable pub positionsWithin : ℕ → List ℕ → ℕ → List ℕ
 positionsWithin zero s at = []
@@ -60,11 +59,11 @@ positionsWithin (suc limit) s at =
 unfoldable pub positionsFrom : List ℕ → ℕ → List ℕ
 positionsFrom s at = positionsWithin (length s - at) s at
 
--- the records from a position on
+-- L8: the records from a position on
 unfoldable pub recordsFrom : List ℕ → ℕ → List Record
 recordsFrom s at = map (λ p. recordAt s p .item) (positionsFrom s at)
 
--- all records of a file
+-- L8: all records of a file
 abbrev pub recordsOf : List ℕ → List Record
 recordsOf s = recordsFrom s 0
 

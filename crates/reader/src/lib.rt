@@ -1,6 +1,6 @@
-// The drill file: the record that stands at a position, and the position behind it.
+// The drill file (L1 to L8): the record that stands at a position, and the position behind it.
 //
-// A file is any list of bytes. Each record is its length, which counts what follows it, its kind
+// A file is any list of bytes. Each record is its length, the number of bytes behind it, its kind
 // and its body. A reader starts at position 0 and goes on at `next` until the end of the file.
 use refusals::Refusal;
 ghost use mathlib.Core.Path.{_≡_};
@@ -21,7 +21,7 @@ pub struct Step {
     pub next: usize,
 }
 
-// Two bytes as a word.
+// L1: two bytes as a word, the low one first.
 fn little_endian(low: u8, high: u8) -> u16
     ensures { λ r. ⌜ r ≡ low + 256 * high ⌝ }
 {
@@ -36,7 +36,7 @@ fn word(file: &[u8], at: usize) -> u16
     little_endian(file[at], file[at + 1])
 }
 
-// Kind 1, a store: address, value. The position is the kind's.
+// L3: a store has address and value. The position is the kind's.
 fn store(file: &[u8], at: usize) -> Record
     requires { ⌜ at + 6 ≤ length (now file) ⌝ }
     ensures { λ r. ⌜ r ≡ storeAt (now (file .entry)) at ⌝ }
@@ -44,7 +44,7 @@ fn store(file: &[u8], at: usize) -> Record
     Record::Store(word(file, at + 2), word(file, at + 4))
 }
 
-// Kind 2, a sample: loop, raw PV.
+// L4: a sample has loop and raw PV.
 fn sample(file: &[u8], at: usize) -> Record
     requires { ⌜ at + 5 ≤ length (now file) ⌝ }
     ensures { λ r. ⌜ r ≡ sampleAt (now (file .entry)) at ⌝ }
@@ -52,7 +52,7 @@ fn sample(file: &[u8], at: usize) -> Record
     Record::Sample(file[at + 2], word(file, at + 3))
 }
 
-// The record of length n whose bytes are all there, by its kind.
+// L6, L7: the record of length n whose bytes are all there, by its kind.
 fn whole(file: &[u8], at: usize, n: usize) -> Record
     requires { ⌜ at + n ≤ length (now file) ⌝ }
     ensures { λ r. ⌜ r ≡ wholeAt (now (file .entry)) at n ⌝ }
@@ -86,7 +86,7 @@ fn bytes_left(file: &[u8], at: usize) -> usize
     if at < file.len() { file.len() - at } else { 0 }
 }
 
-// The record at a position. A cut one ends the file.
+// L5, L8: the record at a position. A cut one ends the file.
 pub fn read_record(file: &[u8], at: usize) -> Step
     ensures { λ r. ⌜ r ≡ recordAt (now (file .entry)) at ⌝ }
 {

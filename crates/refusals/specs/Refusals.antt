@@ -1,4 +1,4 @@
--- The refusals with their numbers (document 01's table), the number of an answer, and the first of several conditions that holds.
+-- The refusals with their numbers (N1 to N9), the number of an answer, and the first of several conditions that holds (O4).
 use Prim.Native.Nat.{ℕ}
 use mathlib.Core.Bool.{Bool, cond}
 use mathlib.Core.List.{List, [], _∷_}
@@ -8,7 +8,7 @@ use Rattle.refusals.specs.declared.Answer.{Answer}
 use Rattle.refusals.specs.declared.Answer.the-variants.{Accepted, Refused}
 pub mod Laws
 
--- the number of each refusal
+-- N1 to N9: the number of each refusal. Wrong lengths and a record out of range are both N5
 abbrev pub numberOfRefusal : Refusal → ℕ
 numberOfRefusal Cut = 1
 numberOfRefusal Kind = 2
@@ -21,7 +21,7 @@ numberOfRefusal Digit = 7
 numberOfRefusal Setting = 8
 numberOfRefusal Above = 9
 
--- the number of an answer: 0 where the call is accepted
+-- Q1 to Q6: the number of an answer, 0 where the call is accepted
 abbrev pub numberOf : Answer → ℕ
 numberOf Accepted = 0
 numberOf (Refused why) = numberOfRefusal why
@@ -35,7 +35,7 @@ infix 20 _⇒_
 abbrev pub _⇒_ : Bool → Refusal → Case
 b ⇒ why = record { holds = b; why = why }
 
--- the first that holds is reported
+-- O4: the first that holds is the answer
 abbrev pub firstOf : List Case → Answer
 firstOf [] = Accepted
 firstOf (x ∷ l) = cond (x .holds) (Refused (x .why)) (firstOf l)

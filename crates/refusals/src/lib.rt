@@ -1,5 +1,5 @@
 // Why a record of a drill file, or a call, is refused: one list of reasons for reader, engine and desk,
-// with the numbers that instructors know.
+// with their numbers (N1 to N9).
 ghost use mathlib.Core.Path.{_≡_};
 ghost use Rattle.refusals.specs.Refusals.{numberOf};
 
@@ -25,16 +25,16 @@ pub const SETTING: u8 = 8;
 pub const ABOVE: u8 = 9;
 
 pub enum Refusal {
-    Cut, // the file ends inside the record
-    Kind, // the record has no kind, or none that is known
-    Length, // its length is not its kind's
-    Loop, // no loop of that number
-    Memory, // the lent words or numbers do not have their length
-    Record, // a number of the loop's carried record is out of range
-    Store, // no word of that address may be stored
-    Digit, // a digit above 9 in words 7 to 10
-    Setting, // a setting that is not allowed
-    Above, // the raw PV is above full scale
+    Cut, // N1: the file ends inside the record
+    Kind, // N2: the record has no kind, or none that is known
+    Length, // N3: its length is not its kind's
+    Loop, // N4: no loop of that number
+    Memory, // N5: the lent words or numbers do not have their length
+    Record, // N5: a number of the loop's carried record is out of range
+    Store, // N6: no word of that address may be stored
+    Digit, // N7: one of words 7 to 10 has a digit above 9
+    Setting, // N8: a setting that is not allowed
+    Above, // N9: the raw PV is above full scale
 }
 
 pub enum Answer {

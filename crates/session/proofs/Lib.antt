@@ -1,3 +1,3 @@
--- What a session's loops keep; and the worked loop's lines, computed.
+-- What a session's loops keep; and the lines of the worked loop (X1), computed.
 pub mod Loops
 pub mod Worked

@@ -1,4 +1,4 @@
--- The worked loop of document 01: what the program prints of its ten records, computed of the definitions.
+-- The worked loop (X1): what is printed of its ten records, computed of the definitions.
 use Prim.Native.Nat.{ℕ}
 use mathlib.Core.Path.{_≡_, refl}
 use mathlib.Core.List.{List, [], _∷_, _++_, flatten}

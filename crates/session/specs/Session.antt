@@ -1,4 +1,4 @@
--- A drill file carried out on a desk: document 01, "Drill file".
+-- A drill file carried out on a desk (L1, L8, Q5).
 use Prim.Native.Nat.{ℕ, _+_}
 use mathlib.Core.Bool.{cond}
 use mathlib.Core.List.{List, [], _∷_}
@@ -21,28 +21,28 @@ pub mod Laws
 
 -- ---- one record
 
--- a store and a sample are the desk's calls, and what the reader refuses is none
+-- O2: a store and a sample are the desk's calls, and what the reader refuses is none
 abbrev pub byCall : {A : Type 0} → (Call → A) → (Refusal → A) → Record → A
 byCall call none (Store address value) = call (store address value)
 byCall call none (Sample k raw) = call (sample k raw)
 byCall call none (Refused why) = none why
 
--- its answer, and the number of that: 0 where it is carried out
+-- Q5: its answer, and the number of that: 0 where it is carried out
 abbrev pub answerFor : Desk → Record → Answer
 answerFor d x = byCall (answerTo d) (λ why. No why) x
 
 abbrev pub numberFor : Desk → Record → ℕ
 numberFor d x = numberOf (answerFor d x)
 
--- the desk after it
+-- Q5, O5: the desk after it
 abbrev pub leftFor : Desk → Record → Desk
 leftFor d x = byCall (deskAfter d) (λ why. d) x
 
--- how many refusals a number counts for
+-- Q5: how many refusals a number counts for
 abbrev pub countOf : ℕ → ℕ
 countOf number = cond (eqb number 0) 0 1
 
--- what is shown of the loop of a sample
+-- L9: what is shown of the loop of a sample
 abbrev pub shownFor : List ℕ → Record → List ℕ
 shownFor ws (Store address value) = replicate 4 0
 shownFor ws (Sample k raw) = lineOf ws k
@@ -50,7 +50,7 @@ shownFor ws (Refused why) = replicate 4 0
 
 -- ---- a list of records
 
--- the desk, how many records were read, and how many of them refused
+-- Q5: the desk, how many records there were, and how many of them were refused
 pub record State : Type 0 where
   pub desk : Desk
   pub count : ℕ
@@ -63,7 +63,7 @@ state ws ns n m = record { desk = lent ws ns; count = n; refused = m }
 abbrev pub begun : Desk → State
 begun d = record { desk = d; count = 0; refused = 0 }
 
--- after one more record
+-- Q5: after one more record
 abbrev pub after : State → Record → State
 after t x = record {
   desk = leftFor (t .desk) x;
@@ -71,34 +71,36 @@ after t x = record {
   refused = t .refused + countOf (numberFor (t .desk) x);
 }
 
--- each record is carried out or refused, and the reading goes on behind it
+-- L8: a record, carried out or refused, is followed by the next one
 unfoldable pub runOf : State → List Record → State
 runOf t [] = t
 runOf t (x ∷ xs) = runOf (after t x) xs
 
--- the answers in order: 0 for a record carried out, else its number of refusal
+-- Q5: the answers in order, 0 for a record carried out, else its number of refusal
 unfoldable pub answersFor : Desk → List Record → List ℕ
 answersFor d [] = []
 answersFor d (x ∷ xs) = numberFor d x ∷ answersFor (leftFor d x) xs
 
--- how many of some answers are refusals
+-- Q5: how many of some answers are refusals
 unfoldable pub refusalsIn : List ℕ → ℕ
 refusalsIn [] = 0
 refusalsIn (number ∷ rest) = countOf number + refusalsIn rest
 
--- the records of a file as the desk's calls: those that the reader refuses are none
+-- E1: the records of a file as the desk's calls; those that the reader refuses are none
 unfoldable pub callsOf : List Record → List Call
 callsOf [] = []
 callsOf (x ∷ xs) = byCall (λ call. call ∷ callsOf xs) (λ why. callsOf xs) x
 
 -- ---- a file
 
--- where the memory does not have its lengths: stopped, and all stays. Else the counts, the desk after the records, and the answers
+-- Q5, O1: where the memory does not have its lengths, stopped by N5; else the counts
 unfoldable pub endedOf : List ℕ → Desk → Ended
 endedOf file d = let t = runOf (begun d) (recordsOf file) in cond (fittingOf d) (Counts (t .count) (t .refused)) (Stopped Memory)
 
+-- Q5, Q8: the desk after the file
 unfoldable pub leftOf : List ℕ → Desk → Desk
 leftOf file d = cond (fittingOf d) (runOf (begun d) (recordsOf file) .desk) d
 
+-- Q5, O1: the answers to the file's records
 unfoldable pub answersOf : List ℕ → Desk → List ℕ
 answersOf file d = cond (fittingOf d) (answersFor d (recordsOf file)) []

@@ -1,4 +1,4 @@
--- Document 01's "Table memory": words, modes, settings, and what a sample reads.
+-- The words of a loop (W1 to W5), modes and formats (M1 to M4), and what a sample reads (A2, A3, Q9).
 pub mod Words
 pub mod Modes
 pub mod Settings

@@ -1,4 +1,4 @@
--- The three modes.
+-- The three modes (M4).
 use mathlib.Core.Bool.{Bool, true, false}
 use Rattle.table.specs.declared.mode.Mode.{Mode}
 use Rattle.table.specs.declared.mode.Mode.the-variants.{Manual, Automatic, Cascade}

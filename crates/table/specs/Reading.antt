@@ -1,4 +1,4 @@
--- All that a sample reads of the table: the loop's settings, the mode after the requests (step 2), and in Cascade the word pointed to.
+-- All that a sample reads of the words: the loop's settings (W2), the mode after the requests (A2), and in Cascade the word pointed to (A3).
 use Prim.Native.Nat.{ℕ}
 use mathlib.Core.Bool.{cond}
 use mathlib.Core.List.{List}
@@ -12,15 +12,15 @@ use Rattle.table.specs.Modes.{isCascade}
 use Rattle.table.specs.Settings.{settingsOf}
 pub mod Laws
 
--- step 2: the lowest request bit that is set gives the mode; none keeps it
+-- A2: the lowest request bit that is on names the mode; with all three off the former one goes on
 unfoldable pub modeAfter : Mode1 → Mode → Mode
 modeAfter bits former = cond (bits .manual) Manual (cond (bits .automatic) Automatic (cond (bits .cascade) Cascade former))
 
--- in Cascade, the word at the pointer
+-- A3: in Cascade, the word whose address is in word 26; else 0
 unfoldable pub remoteOf : List ℕ → Mode → ℕ → ℕ
 remoteOf words mode pointer = cond (isCascade mode) (getD words pointer 0) 0
 
--- all that a sample of loop k reads, `former` being the loop's mode so far
+-- Q9: all that a sample of loop k reads, `former` being the loop's carried mode
 unfoldable pub readingOf : List ℕ → ℕ → Mode → Reading
 readingOf words k former =
     let s = settingsOf (blockAt words (baseOf k)) in

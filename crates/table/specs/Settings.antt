@@ -1,4 +1,4 @@
--- A loop's 32 words read as its settings, each word by its decimal offset.
+-- A loop's 32 words read as its settings, each word by its place in W2's table.
 use Prim.Native.Nat.{ℕ}
 use mathlib.Core.Bool.{Bool, _||_}
 use mathlib.Core.List.{List, [], _∷_}
@@ -13,7 +13,7 @@ use Rattle.table.specs.declared.settings.Settings.{Settings}
 use Rattle.table.specs.Words.{bit, bcd, badDigit, formatOf, any}
 pub mod Laws
 
--- mode 1, word 0
+-- M1: mode 1, word 0
 abbrev pub mode1Of : ℕ → Mode1
 mode1Of word = record {
   manual = bit 0 word;
@@ -33,7 +33,7 @@ mode1Of word = record {
   change = bit 14 word;
 }
 
--- "a mode 2 bit other than 1, 4, 8, 9"
+-- M2: a bit of mode 2 is on that has to be off
 abbrev pub unusedBits : ℕ → Bool
 unusedBits word =
     any
@@ -51,18 +51,19 @@ unusedBits word =
     ∷ bit 15 word
     ∷ [])
 
--- mode 2, word 1
+-- M2: mode 2, word 1
 unfoldable pub mode2Of : ℕ → Mode2
 mode2Of word = record { input = formatOf word; output = formatOf word; minutes = bit 4 word; unused = unusedBits word }
 
--- words 7 to 10
+-- N7: one of words 7 to 10 has a digit above 9
 unfoldable pub badDigits : List ℕ → Bool
 badDigits w = badDigit (getD w 7 0) || badDigit (getD w 8 0) || badDigit (getD w 9 0) || badDigit (getD w 10 0)
 
+-- W2, W3: words 7 to 10, in hundredths
 unfoldable pub tuningOf : List ℕ → Tuning
 tuningOf w = record { period = bcd (getD w 7 0); gain = bcd (getD w 8 0); reset = bcd (getD w 9 0); rate = bcd (getD w 10 0) }
 
--- words 11 to 18
+-- W2: words 11 to 18
 abbrev pub alarmLimitsOf : List ℕ → AlarmLimits
 alarmLimitsOf w = record {
   lowlow = getD w 11 0;
@@ -75,14 +76,15 @@ alarmLimitsOf w = record {
   hysteresis = getD w 18 0;
 }
 
--- words 24 and 25
+-- W2: words 24 and 25
 abbrev pub outputLimitsOf : List ℕ → OutputLimits
 outputLimitsOf w = record { low = getD w 24 0; high = getD w 25 0 }
 
--- words 0, 2, 4, 5 and 6
+-- W2: words 0, 2, 4, 5 and 6, which samples write, as they stand before the sample
 abbrev pub storedOf : List ℕ → Stored
 storedOf w = record { word = getD w 0 0; setpoint = getD w 2 0; bias = getD w 4 0; output = getD w 5 0; status = getD w 6 0 }
 
+-- W2: all that the engine uses of a loop's words; word 3 it only writes
 unfoldable pub settingsOf : List ℕ → Settings
 settingsOf w = record {
   stored = storedOf w;

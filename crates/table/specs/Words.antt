@@ -11,26 +11,27 @@ pub mod Laws
 abbrev pub bit : ℕ → ℕ → Bool
 bit k word = eqb (word / 2 ^ k % 2) 1
 
--- the value of four BCD digits
+-- W3: the value of four BCD digits, the highest in the highest four bits
 unfoldable pub bcd : ℕ → ℕ
 bcd word = word / 4096 % 16 * 1000 + word / 256 % 16 * 100 + word / 16 % 16 * 10 + word % 16
 
--- one of four BCD digits is above 9
+-- N7: one of four BCD digits is above 9
 unfoldable pub badDigit : ℕ → Bool
 badDigit word = ltb 9 (word / 4096 % 16) || ltb 9 (word / 256 % 16) || ltb 9 (word / 16 % 16) || ltb 9 (word % 16)
 
--- mode 1 with bits 0 to 2, the requests, cleared (step 2)
+-- A2: mode 1 with bits 0 to 2, the requests, off
 abbrev pub clearRequests : ℕ → ℕ
 clearRequests word = word / 8 * 8
 
--- the full scale: "Bit 9 gives 65,535, else bit 1 gives 32,767, else 4,095"
+-- M3: the full scale by bits 9 and 1 of mode 2, bit 9 first
 abbrev pub formatOf : ℕ → Format
 formatOf word = cond (bit 9 word) (record { scale = 65535 }) (cond (bit 1 word) (record { scale = 32767 }) (record { scale = 4095 }))
 
--- "Loop k (1 to 16) owns the 32 words from address 32 × (k − 1)"
+-- W1: the address of word 0 of loop k
 abbrev pub baseOf : ℕ → ℕ
 baseOf k = 32 * (k - 1)
 
+-- W1: the 32 words from an address on
 abbrev pub blockAt : List ℕ → ℕ → List ℕ
 blockAt words base = take 32 (drop base words)
 

@@ -1,4 +1,4 @@
-// The format of a loop's data words, by its full scale.
+// The format of a loop's data words, by its full scale (M3).
 ghost use mathlib.Core.Path.{_≡_};
 ghost use Rattle.table.specs.Words.{formatOf};
 
@@ -13,7 +13,7 @@ impl Format {
 
     pub const SIXTEEN: Format = Format { scale: 65535 };
 
-    // From the mode 2 word: bit 9 gives 16 bits, else bit 1 gives 15, else 12.
+    // From mode 2: 16 bits with bit 9 on; without it 15 with bit 1 on; else 12.
     pub fn new(word: u16) -> Format
         ensures { λ r. ⌜ r ≡ formatOf word ⌝ }
     {

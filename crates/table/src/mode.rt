@@ -1,4 +1,4 @@
-// The mode of a loop.
+// The mode of a loop (M4).
 ghost use mathlib.Core.Path.{_≡_};
 ghost use Rattle.table.specs.Modes.{isManual, isAutomatic, isCascade};
 

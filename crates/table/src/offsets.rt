@@ -1,4 +1,4 @@
-// The lent words: how many there are, and the offset of each word of a loop, as in the header.
+// The lent words (W1), and the offset of each word of a loop (W2), as in the header.
 pub const WORDS: usize = 1024;
 
 pub const LOOPS: u8 = 16;

@@ -12,8 +12,8 @@ ghost use lib.ListN.{length};
 ghost use Rattle.table.specs.Words.{baseOf};
 ghost use Rattle.table.specs.Reading.{modeAfter, remoteOf, readingOf};
 
-// The loop's number and settings, the mode after the requests and, in Cascade, the word that the
-// setpoint pointer names (else 0).
+// The loop's number and settings, the mode after the requests (A2) and, in Cascade, the word that the
+// setpoint pointer names (A3; else 0).
 pub struct Reading {
     pub number: u8,
     pub settings: Settings,
@@ -21,7 +21,7 @@ pub struct Reading {
     pub remote: u16,
 }
 
-// The address of the first word of loop k.
+// W1: the address of the first word of loop k.
 pub fn base_of(k: u8) -> usize
     ensures { λ r. ⌜ r ≡ baseOf k ⌝ }
 {
@@ -32,7 +32,7 @@ pub fn base_of(k: u8) -> usize
     }
 }
 
-// Step 2: the lowest request bit that is set gives the mode, and none keeps it.
+// A2: the lowest request bit that is on names the mode; with all three off the former one goes on.
 fn mode_after(bits: Mode1, former: Mode) -> Mode
     ensures { λ r. ⌜ r ≡ modeAfter bits former ⌝ }
 {
@@ -47,7 +47,7 @@ fn mode_after(bits: Mode1, former: Mode) -> Mode
     }
 }
 
-// The word that the setpoint pointer names, in Cascade; else 0.
+// A3: the word that the setpoint pointer names, in Cascade; else 0.
 fn read_remote(words: &[u16], mode: Mode, pointer: u16) -> u16
     ensures { λ r. ⌜ r ≡ remoteOf (now (words .entry)) mode pointer ⌝ }
 {

@@ -29,7 +29,7 @@ ghost use Prim.Native.Nat.{_≤_};
 ghost use lib.ListN.{length};
 ghost use Rattle.table.specs.Settings.{mode1Of, mode2Of, unusedBits, badDigits, tuningOf, alarmLimitsOf, storedOf, settingsOf};
 
-// The bits of mode 1. Bit 15 has no use and is kept as it stands.
+// M1: the bits of mode 1. Bit 15 has no use and stays as it is.
 pub struct Mode1 {
     pub manual: bool, // 0: Manual is requested
     pub automatic: bool, // 1: Automatic is requested
@@ -48,7 +48,7 @@ pub struct Mode1 {
     pub change: bool, // 14: monitor the rate of change
 }
 
-// The bits of mode 2. Bit 8 is ignored.
+// M2: the bits of mode 2. Bit 8 is ignored.
 pub struct Mode2 {
     pub input: Format, // 1 and 9: of PVs and setpoint
     pub output: Format, // the same: of output, its limits and bias
@@ -56,7 +56,7 @@ pub struct Mode2 {
     pub unused: bool, // any bit but 1, 4, 8 and 9
 }
 
-// The BCD words, in hundredths: seconds, or for reset seconds or minutes; gain is a plain number.
+// W3: the BCD words, in hundredths: of a second, for the reset time by M2 of a minute, for the gain of 1.
 pub struct Tuning {
     pub period: u16, // 7
     pub gain: u16, // 8
@@ -93,7 +93,7 @@ pub struct Settings {
     pub stored: Stored,
     pub mode1: Mode1,
     pub mode2: Mode2,
-    pub baddigit: bool, // a digit above 9 stands in words 7 to 10
+    pub baddigit: bool, // N7: one of words 7 to 10 has a digit above 9
     pub tuning: Tuning,
     pub alarms: AlarmLimits,
     pub limits: OutputLimits,

@@ -3,14 +3,14 @@ ghost use mathlib.Core.Path.{_≡_};
 ghost use lib.ListN.{getD};
 ghost use Rattle.table.specs.Words.{bcd, badDigit, clearRequests};
 
-// Four BCD digits as a number: the word less what a digit's place has too much, 16 for 10.
+// W3: four BCD digits as a number: the word less what a digit's place has too much, 16 for 10.
 pub(crate) fn decimal(word: u16) -> u16
     ensures { λ r. ⌜ r ≡ bcd word ⌝ }
 {
     word - 6 * (word / 16) - 60 * (word / 256) - 600 * (word / 4096)
 }
 
-// Whether one of the four digits is above 9.
+// N7: whether one of the four digits is above 9.
 pub(crate) fn bad_digit(word: u16) -> bool
     ensures { λ r. ⌜ r ≡ badDigit word ⌝ }
 {
@@ -24,7 +24,7 @@ pub fn word_at(words: &[u16], at: usize) -> u16
     if at < words.len() { words[at] } else { 0 }
 }
 
-// Mode 1 with the three request bits cleared.
+// A2: mode 1 with the three request bits off.
 pub fn clear_requests(word: u16) -> u16
     ensures { λ r. ⌜ r ≡ clearRequests word ⌝ }
 {

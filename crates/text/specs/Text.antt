@@ -1,4 +1,4 @@
--- Texts as lists of bytes: the decimal and hexadecimal digits of a number, how digits are read, and what it is to write a text into a buffer.
+-- Texts as lists of bytes: the decimal and hexadecimal digits of a number (L9), how digits are read, and what it is to write a text into a buffer.
 -- The laws of these definitions are in `Text/Laws`.
 use Prim.Native.Nat.{ℕ, zero, suc, _+_, _*_, _-_, _/_, _%_}
 use Prim.Native.Char.{code}
@@ -43,11 +43,11 @@ readFrom value (digit ∷ more) = readFrom (10 * value + (digit - 48)) more
 unfoldable pub readDecimal : List ℕ → ℕ
 readDecimal digits = readFrom 0 digits
 
--- the upper-case hexadecimal digit of d below 16
+-- L9: the upper-case hexadecimal digit of d below 16
 abbrev pub hexDigit : ℕ → ℕ
 hexDigit d = cond (ltb d 10) (48 + d) (55 + d)
 
--- the four hexadecimal digits of a word
+-- L9: the four hexadecimal digits of a word
 abbrev pub hexOf : ℕ → List ℕ
 hexOf n = hexDigit (n / 4096 % 16) ∷ hexDigit (n / 256 % 16) ∷ hexDigit (n / 16 % 16) ∷ hexDigit (n % 16) ∷ []
 

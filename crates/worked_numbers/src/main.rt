@@ -1,4 +1,4 @@
-// Runs the functions of `numbers` and `text` on the worked numbers of the papers, at exact halves
+// Runs the functions of `numbers` and `text` on worked numbers, that of X4 among them, at exact halves
 // of both signs and at the extremes of each function, and prints a line for each: the call, then
 // what it answers.
 use libc::STDOUT_FILENO;
@@ -14,7 +14,7 @@ fn main() {
     words();
 }
 
-// The root of 1,000 in 12 bits is 2,023.
+// X4: the root of raw PV 1,000 in 12 bits, that of 1,000 × 4,095, is 2,023.
 fn roots() {
     say_word(b"root 4095000", numbers::root(4095000));
     say_word(b"root 0", numbers::root(0));

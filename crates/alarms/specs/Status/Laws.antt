@@ -29,7 +29,7 @@ one : (b : Bool) → eqb (number b) 1 ≡ b
 one true = refl
 one false = refl
 
--- a word made of bits has those bits; above them it has none: "All else 0"
+-- a word made of bits has those bits; above them it has none (B8)
 pub status-bit : (l : List Bool) (k : ℕ) → bit k (wordOf l) ≡ getD l k false
 status-bit [] k = rw zero-div
 status-bit (b ∷ l) zero = rw (div-one, low, one)
@@ -67,13 +67,13 @@ same false false f g = refl
 same-test : (a b : ℕ) (y z : ℤ) → (a < b → y <ℤ z) → (y <ℤ z → a < b) → ltb a b ≡ ltZ y z
 same-test a b y z f g = same _ _ (λ t. f (ltb→lt a b t) .lt) (λ t. lt→ltb a b (g (record { lt = t })))
 
--- "a high alarm stays while p > limit − hysteresis"
+-- B3: the sum for a high alarm says that x is larger than limit − hysteresis, which may be below 0
 pub high-hold : (limit hysteresis x : ℕ) → ltb limit (x + hysteresis) ≡ ltZ (pos limit -ℤ pos hysteresis) (pos x)
 high-hold limit hysteresis x =
     let s = sub (pos limit) (pos hysteresis) in
     same-test limit (x + hysteresis) (pos limit -ℤ pos hysteresis) (pos x) (λ h. omega (arith, linear, s)) (λ h. omega (arith, linear, s))
 
--- "a low one while p < limit + hysteresis"
+-- B3: and for a low one that x is smaller than limit + hysteresis
 pub low-hold : (limit hysteresis x : ℕ) → ltb x (limit + hysteresis) ≡ ltZ (pos x) (pos limit +ℤ pos hysteresis)
 low-hold limit hysteresis x = refl
 

@@ -95,7 +95,7 @@ sampled d k raw e =
       reading = usable (d .words) k (recordAt (d .numbers) k .state .mode) raw (q .1);
     }
 
--- past 5 and 4 the record and the reading decide
+-- past N5 and N4 the record and the reading decide
 pub answer-ranged : (d : Desk) (k raw : ℕ) → fittingOf d ≡ true → 1 ≤ k → k ≤ 16
     → sampleAnswer d k raw ≡ firstOf ((outOfRange (numbersAt (d .numbers) (slotOf k)) ⇒ Record) ∷ readingCases (readingAt d k) raw)
 unfolding sampleAnswer

@@ -18,7 +18,7 @@ use Rattle.carried.specs.declared.record.Past.{Past}
 use Rattle.engine.specs.Driving.{heldOf, startOf, pastOf, positionInputs, velocityInputs, inputsOf, termsIn, lowUnits, highUnits, movedPosition, movedVelocity, movedOf}
 use Rattle.engine.specs.Premises.{Counted, Movable}
 
--- word 5 brought to the nearer limit is within the limits
+-- word 5 brought inside the limits is within them
 pub held-low : (s : Settings) → s .limits .low ≤ s .limits .high → s .limits .low ≤ heldOf s
 unfolding heldOf
 held-low s l = clamped orderℕ l (s .stored .output) .low

@@ -24,7 +24,7 @@ returns-2 c = rw (c .before .before .if1 .left, sym (c .before .bad-modes .ensur
 bad-times-requires : tie.Need-bad-times-requires
 bad-times-requires c κs = search needs
 
--- past 7, and past each group of 8
+-- past N7, and past each group of N8
 module _ (c : tie.Else2) where
   abbrev reading : Reading
   reading = c .before .before .before .before .before .before .before .before .args .reading

@@ -21,7 +21,7 @@ module _ {A : Type 0} (_≼_ : A → A → Type 0) where
     pub no : (x y : A) → T (not (below x y)) → y ≼ x
     pub strict : (x y : A) → T (below x y) → y ≼ x → ⊥
 
-  -- c is x brought to the nearer limit, said by the order alone: so it can be said of numbers of one kind and carried to another
+  -- c is x brought inside the limits, said by the order alone: so it can be said of numbers of one kind and carried to another
   pub record Clamped (lo hi x c : A) : Type 0 where
     pub low : lo ≼ c
     pub high : c ≼ hi

@@ -20,18 +20,18 @@ use Rattle.control.specs.Terms.{Exact}
 use Rattle.control.specs.Forms.{positionOf, outsideOf}
 use Rattle.plain.specs.Exact.{inCounts, exactSum, exactOutput, exactBias}
 
--- the terms in the nearest unit, as step 7 has them
+-- the terms in the nearest unit, as A7 has them
 abbrev pub rounded : Exact → Terms
 rounded t = record { p = roundTo 262144 (t .p); i = roundTo 262144 (t .i); d = roundTo 262144 (t .d) }
 
--- ---- step 8 in whole units
+-- ---- A8 in whole units
 
 module _ (drive : Drive) (t : Terms) (low high : ℤ) where
   -- m
   abbrev sum : ℤ
   sum = (t .p -ℤ t .d) +ℤ (drive .bias +ℤ t .i)
 
-  -- the output is m brought to the nearer limit
+  -- the output is m brought inside its limits
   output-clamped : positionOf false drive t low high .output ≡ clampℤ sum low high
   unfolding positionOf outsideOf
   output-clamped = by-test (λ (d : Drive). d .output ≡ clampℤ sum low high) (not (ltZ sum low) && not (ltZ high sum)) (λ _. refl) (λ _. refl)

@@ -12,7 +12,7 @@ use Rattle.refusals.specs.Refusals.{numberOfRefusal, numberOf, Case, fir
 
 -- ---- numbers
 
--- every refusal has a number of the table: 1 to 9
+-- every refusal has a number from 1 to 9
 pub in-table : (why : Refusal) → (0 < numberOfRefusal why) × (numberOfRefusal why ≤ 9)
 in-table Cut = omega arith
 in-table Kind = omega arith
