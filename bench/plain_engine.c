@@ -105,7 +105,7 @@ static unsigned status(const uint16_t *w, const struct carried *c, enum mode mod
     return word;
 }
 
-static uint8_t sample(uint16_t *words, struct carried *records, unsigned loop, unsigned raw, uint16_t line[4]) {
+static uint8_t sample(uint16_t *words, struct carried *records, uint64_t loop, uint64_t raw, uint16_t line[4]) {
     if (loop < 1 || loop > LOOPS) return 4;
     struct carried *c = &records[loop - 1];
     if (out_of_range(c)) return 5;
@@ -118,7 +118,8 @@ static uint8_t sample(uint16_t *words, struct carried *records, unsigned loop, u
     if (setting_refused(words, w, mode, full, tuning[0], tuning[2])) return 8;
     if (raw > full) return 9;
 
-    int p = (int)(bit(w[0], 6) ? root(raw * full) : raw);
+    unsigned measured = (unsigned)raw;
+    int p = (int)(bit(w[0], 6) ? root(measured * full) : measured);
     int s = mode == CASCADE ? words[w[26]] : w[2];
     int velocity = bit(w[0], 5);
     int entry = mode != MANUAL && (c->mode == MANUAL || c->velocity != velocity);
@@ -160,8 +161,8 @@ static uint8_t sample(uint16_t *words, struct carried *records, unsigned loop, u
     return 0;
 }
 
-static uint8_t store(uint16_t *words, unsigned address, unsigned value) {
-    unsigned at = address % LOOP_WORDS;
+static uint8_t store(uint16_t *words, uint64_t address, unsigned value) {
+    uint64_t at = address % LOOP_WORDS;
     if (address >= WORDS || (address < LOOPS * LOOP_WORDS && (at == 3 || at == 4 || at == 6 || at == 29))) return 6;
     words[address] = (uint16_t)value;
     return 0;
@@ -219,20 +220,20 @@ uint8_t plain_reset(uint16_t *words, size_t words_length, int64_t *records, size
     return 0;
 }
 
-uint8_t plain_store(uint16_t *words, size_t words_length, int64_t *records, size_t records_length, uint16_t address,
+uint8_t plain_store(uint16_t *words, size_t words_length, int64_t *records, size_t records_length, uint64_t address,
     uint16_t value) {
     (void)records; /* a store looks at no record */
     if (words_length != WORDS || records_length != NUMBERS) return 5;
     return store(words, address, value);
 }
 
-uint8_t plain_sample(uint16_t *words, size_t words_length, int64_t *records, size_t records_length, uint8_t loop, uint16_t raw,
+uint8_t plain_sample(uint16_t *words, size_t words_length, int64_t *records, size_t records_length, uint64_t loop, uint64_t raw,
     uint16_t line[4]) {
     if (words_length != WORDS || records_length != NUMBERS) return 5;
     return sample(words, (struct carried *)records, loop, raw, line);
 }
 
-uint8_t plain_record(const int64_t *records, size_t records_length, uint8_t loop, int64_t fields[8]) {
+uint8_t plain_record(const int64_t *records, size_t records_length, uint64_t loop, int64_t fields[8]) {
     if (records_length != NUMBERS) return 5;
     if (loop < 1 || loop > LOOPS) return 4;
     const struct carried *c = (const struct carried *)records + (loop - 1);

@@ -19,12 +19,12 @@ static int refused(uint8_t answer) {
     return 1;
 }
 
-static void store(uint16_t address, uint16_t value) {
+static void store(unsigned address, uint16_t value) {
     if (refused(kexbardi_store(words, KEXBARDI_WORDS, records, KEXBARDI_NUMBERS, address, value))) return;
     printf("%u set %u %u\n", calls, address, value);
 }
 
-static void sample(uint8_t loop, uint16_t raw) {
+static void sample(unsigned loop, unsigned raw) {
     uint16_t line[4];
     if (refused(kexbardi_sample(words, KEXBARDI_WORDS, records, KEXBARDI_NUMBERS, loop, raw, line))) return;
     printf("%u loop %u sp %u pv %u out %u word %04X\n", calls, loop, line[KEXBARDI_LINE_SETPOINT], line[KEXBARDI_LINE_PV],
@@ -32,24 +32,24 @@ static void sample(uint8_t loop, uint16_t raw) {
 }
 
 int main(void) {
-    /* Header and archive have to be of one version: the layouts may differ. */
+    /* Header and library have to be of one version: the layouts may differ. */
     if (kexbardi_version() != KEXBARDI_VERSION) {
-        fprintf(stderr, "kexbardi.h and the archive are of different versions\n");
+        fprintf(stderr, "kexbardi.h and the library are of different versions\n");
         return 1;
     }
     if (kexbardi_reset(words, KEXBARDI_WORDS, records, KEXBARDI_NUMBERS) != KEXBARDI_ACCEPTED) return 1;
 
-    store(KEXBARDI_ADDRESS(1, KEXBARDI_OUTPUT), 2000);      /* where the output stands as the loop is taken over */
-    store(KEXBARDI_ADDRESS(1, KEXBARDI_OUTPUT_HIGH), 4095); /* the whole of 12 bits */
-    store(KEXBARDI_ADDRESS(1, KEXBARDI_PERIOD), 0x0100);    /* 1.00 s: the digits of a BCD word read like hex */
-    store(KEXBARDI_ADDRESS(1, KEXBARDI_GAIN), 0x0200);      /* 2.00 */
-    store(KEXBARDI_ADDRESS(1, KEXBARDI_RESET), 0x1000);     /* 10.00 s */
-    store(KEXBARDI_ADDRESS(1, KEXBARDI_MODE_1), 1 << 1);    /* Automatic is requested */
+    store(KEXBARDI_ADDRESS(1, KEXBARDI_OUTPUT), 2000); /* where the output stands as the loop is taken over */
+    store(KEXBARDI_ADDRESS(1, KEXBARDI_OUTPUT_HIGH), KEXBARDI_FULL_12);
+    store(KEXBARDI_ADDRESS(1, KEXBARDI_PERIOD), KEXBARDI_BCD(100)); /* 1.00 s is the BCD word 0x0100 */
+    store(KEXBARDI_ADDRESS(1, KEXBARDI_GAIN), KEXBARDI_BCD(200));   /* 2.00 */
+    store(KEXBARDI_ADDRESS(1, KEXBARDI_RESET), KEXBARDI_BCD(1000)); /* 10.00 s */
+    store(KEXBARDI_ADDRESS(1, KEXBARDI_MODE_1), KEXBARDI_M1_AUTOMATIC); /* Automatic is requested */
 
-    sample(1, 1000);                                        /* enters Automatic: the setpoint becomes the PV */
+    sample(1, 1000); /* enters Automatic: the setpoint becomes the PV */
     store(KEXBARDI_ADDRESS(1, KEXBARDI_SETPOINT), 1500);
-    sample(1, 1000);                                        /* 2,000 + 2.00 x 500, and 100 by reset */
-    sample(17, 0);                                          /* no such loop */
+    sample(1, 1000); /* 2,000 + 2.00 x 500, and 100 by reset */
+    sample(17, 0); /* no such loop */
     printf("%u records, %u refused\n", calls, refusals);
     return 0;
 }

@@ -19,7 +19,12 @@
  *   - no other thread uses that memory during the call.
  * Nothing else is asked: words, records and files may hold anything.
  *
- * For x86-64 Linux, C99 or later and C++. docs/INTEGRATION.md has more. */
+ * Loop, address and raw PV are 64 bits wide, so that no integer of a C program is cut on its way in: loop
+ * 257 is refused with 4, address 66,000 with 6, raw PV 70,000 with 9, and so is -1. A value that is stored
+ * is a word of 16 bits: the C compiler cuts a wider one before the call, silently unless -Wconversion is on.
+ *
+ * MANUAL.md, packaged beside this header's folder, has the rules that are cited here by their numbers (W1,
+ * A4, N8); INTEGRATION.md there is about linking. For x86-64 Linux, C99 or later and C++. */
 #ifndef KEXBARDI_H
 #define KEXBARDI_H
 
@@ -30,11 +35,14 @@
 extern "C" {
 #endif
 
-/* The version of the functions and of the layout below: major, minor, patch as MMmmpp. package/make writes the
- * number in: the header to compile with is the packaged one. */
+/* The version: major, minor, patch as MMmmpp. CHANGELOG.md says what a change of each means.
+ * In the sources the number stands in crates/kexbardi alone; package/make writes it in here. */
 #define KEXBARDI_VERSION @VERSION@
 
-/* ---- the words */
+/* Desks that were saved with any version from this one up to KEXBARDI_VERSION may be loaded. */
+#define KEXBARDI_OLDEST_SAVE 10000
+
+/* ---- the words (W1, W2) */
 
 #define KEXBARDI_LOOPS 16
 #define KEXBARDI_WORDS 1024     /* length of the words */
@@ -44,16 +52,16 @@ extern "C" {
 #define KEXBARDI_ADDRESS(loop, offset) (KEXBARDI_LOOP_WORDS * ((loop) - 1) + (offset))
 
 enum kexbardi_word {
-    KEXBARDI_MODE_1 = 0,
-    KEXBARDI_MODE_2 = 1,
+    KEXBARDI_MODE_1 = 0,      /* bits KEXBARDI_M1_.. */
+    KEXBARDI_MODE_2 = 1,      /* bits KEXBARDI_M2_.. */
     KEXBARDI_SETPOINT = 2,
-    KEXBARDI_PV = 3,          /* written by the engine only */
-    KEXBARDI_BIAS = 4,        /* written by the engine only */
+    KEXBARDI_PV = 3,          /* for samples: not stored */
+    KEXBARDI_BIAS = 4,        /* for samples: not stored */
     KEXBARDI_OUTPUT = 5,
-    KEXBARDI_STATUS = 6,      /* written by the engine only */
+    KEXBARDI_STATUS = 6,      /* bits KEXBARDI_S_..; for samples: not stored */
     KEXBARDI_PERIOD = 7,      /* BCD, hundredths of a second */
     KEXBARDI_GAIN = 8,        /* BCD, hundredths */
-    KEXBARDI_RESET = 9,       /* BCD, hundredths of a second, or of a minute with bit 4 of mode 2 */
+    KEXBARDI_RESET = 9,       /* BCD, hundredths of a second, or of a minute; or KEXBARDI_RESET_OFF */
     KEXBARDI_RATE = 10,       /* BCD, hundredths of a second */
     KEXBARDI_LOW_LOW = 11,
     KEXBARDI_LOW = 12,
@@ -69,16 +77,76 @@ enum kexbardi_word {
     KEXBARDI_POINTER = 26     /* the address of the setpoint in Cascade */
 };
 
-/* ---- the records */
+/* BCD (W3): period, gain, reset and rate are four decimal digits, one in each four bits, and count
+ * hundredths. 2.00 is 200 hundredths and the word 0x0200; the plain number 200 is 0x00C8, whose C is no digit,
+ * and a sample with it is refused with 7.
+ * KEXBARDI_BCD(200) is 0x0200. What is above 9999 or negative becomes 0xFFFF, which is refused with 7 as well. */
+#define KEXBARDI_BCD(hundredths) \
+    ((uint16_t)((uint64_t)(hundredths) > 9999 ? 0xFFFF : \
+        (uint64_t)(hundredths) / 1000 * 4096 + (uint64_t)(hundredths) / 100 % 10 * 256 \
+        + (uint64_t)(hundredths) / 10 % 10 * 16 + (uint64_t)(hundredths) % 10))
+
+/* And back: KEXBARDI_HUNDREDTHS(0x0200) is 200. */
+#define KEXBARDI_HUNDREDTHS(word) \
+    ((uint16_t)(word) / 4096 * 1000 + (uint16_t)(word) / 256 % 16 * 100 + (uint16_t)(word) / 16 % 16 * 10 + (uint16_t)(word) % 16)
+
+#define KEXBARDI_RESET_OFF 0x9999 /* the reset time that stands for no reset action (A7) */
+
+/* Mode 1, word 0 (M1). Bits 9 and 11 have to be off (refusal 8); bit 15 is ignored. */
+enum kexbardi_mode_1 {
+    KEXBARDI_M1_MANUAL = 0x0001,           /* requests: the next sample obeys the lowest and clears all three */
+    KEXBARDI_M1_AUTOMATIC = 0x0002,
+    KEXBARDI_M1_CASCADE = 0x0004,
+    KEXBARDI_M1_BUMPLESS_II = 0x0008,      /* off: Bumpless I, the setpoint becomes the PV at an entry to Automatic */
+    KEXBARDI_M1_REVERSE = 0x0010,          /* the output rises with the PV; off: it falls as the PV rises */
+    KEXBARDI_M1_VELOCITY = 0x0020,         /* velocity form; off: position form */
+    KEXBARDI_M1_ROOT = 0x0040,             /* square root of the PV */
+    KEXBARDI_M1_SQUARED = 0x0080,          /* error squared */
+    KEXBARDI_M1_DEADBAND = 0x0100,         /* error deadband of KEXBARDI_DEADBAND */
+    KEXBARDI_M1_FREEZE = 0x0400,           /* the bias is frozen while the output would pass a limit */
+    KEXBARDI_M1_PV_ALARMS = 0x1000,        /* low-low, low, high, high-high */
+    KEXBARDI_M1_DEVIATION_ALARMS = 0x2000, /* yellow, red */
+    KEXBARDI_M1_RATE_ALARM = 0x4000        /* change of the PV */
+};
+
+/* Mode 2, word 1 (M2). Bit 8 is ignored; all others have to be off (refusal 8). */
+enum kexbardi_mode_2 {
+    KEXBARDI_M2_FIFTEEN_BITS = 0x0002,
+    KEXBARDI_M2_RESET_MINUTES = 0x0010,
+    KEXBARDI_M2_SIXTEEN_BITS = 0x0200      /* prevails over FIFTEEN_BITS; with neither, 12 bits */
+};
+
+/* The full scales of the three formats (M3). */
+#define KEXBARDI_FULL_12 4095
+#define KEXBARDI_FULL_15 32767
+#define KEXBARDI_FULL_16 65535
+
+/* Status, word 6 (section 7 of MANUAL.md). */
+enum kexbardi_status {
+    KEXBARDI_S_MANUAL = 0x0001,
+    KEXBARDI_S_AUTOMATIC = 0x0002,
+    KEXBARDI_S_CASCADE = 0x0004,
+    KEXBARDI_S_LOW_LOW = 0x0008,
+    KEXBARDI_S_LOW = 0x0010,
+    KEXBARDI_S_HIGH = 0x0020,
+    KEXBARDI_S_HIGH_HIGH = 0x0040,
+    KEXBARDI_S_YELLOW = 0x0080,
+    KEXBARDI_S_RED = 0x0100,
+    KEXBARDI_S_RATE = 0x0200,              /* the PV changed by more than KEXBARDI_CHANGE */
+    KEXBARDI_S_ALARM_SETTINGS = 0x0400,    /* alarm limits that contradict each other (B6) */
+    KEXBARDI_S_AT_LIMIT = 0x0800           /* the output is at a limit and the PV is not at the setpoint (B7) */
+};
+
+/* ---- the records (H1 to H5) */
 
 #define KEXBARDI_FIELDS 8      /* numbers of each record */
 #define KEXBARDI_NUMBERS 128   /* length of the records: 16 of 8 numbers, loop 1 first */
+#define KEXBARDI_UNITS 262144  /* units of a count: bias and output are carried in units */
 
-/* The numbers of a record, in order, and the lowest and highest that each may be. Bias and output count units,
- * of which a count has 262,144. A record at reset is eight zeros.
+/* The numbers of a record, in order, and the lowest and highest that each may be. A record at reset is eight zeros.
  *
  *                 lowest                    highest
- *   mode          0                         2                       0 Manual, 1 Automatic, 2 Cascade
+ *   mode          0                         2                       one of enum kexbardi_mode
  *   bias          -4,503,599,627,370,496    4,503,599,627,370,496   2^52 units
  *   output        0                         17,179,607,040          65,535 counts
  *   last PV       0                         65,535
@@ -99,7 +167,9 @@ enum kexbardi_field {
     KEXBARDI_FIELD_SAMPLED = 7
 };
 
-/* ---- the refusals, by the numbers that instructors know from drill files */
+enum kexbardi_mode { KEXBARDI_MANUAL = 0, KEXBARDI_AUTOMATIC = 1, KEXBARDI_CASCADE = 2 };
+
+/* ---- the refusals (N1 to N9), by the numbers that instructors know from drill files */
 
 enum kexbardi_refusal {
     KEXBARDI_ACCEPTED = 0,
@@ -107,17 +177,19 @@ enum kexbardi_refusal {
     KEXBARDI_KIND = 2,     /* file: a record of no kind, or of one that is unknown */
     KEXBARDI_LENGTH = 3,   /* file: a record whose length its kind does not have */
     KEXBARDI_LOOP = 4,     /* no loop of that number: loops are 1 to 16 */
-    KEXBARDI_MEMORY = 5,   /* the lent memory does not have its length, or a number of the loop's record is out of range */
-    KEXBARDI_STORE = 6,    /* store: the address is above 1,023, or that word is written by the engine only */
+    KEXBARDI_MEMORY = 5,   /* the lent memory does not have its length, or a number of the loop's record is out of range;
+                              of kexbardi_print: the room is too short */
+    KEXBARDI_STORE = 6,    /* store: the address is above 1,023, or that word is not the caller's to store */
     KEXBARDI_DIGIT = 7,    /* sample: period, gain, reset or rate has a digit above 9 */
-    KEXBARDI_SETTING = 8,  /* sample: a setting that is not allowed (docs/INTEGRATION.md lists them) */
+    KEXBARDI_SETTING = 8,  /* sample: a setting that is not allowed (N8 of MANUAL.md lists them) */
     KEXBARDI_ABOVE = 9     /* sample: the raw PV is above full scale */
 };
 
-/* ---- the functions */
+/* ---- the functions (Q1 to Q10) */
 
-/* KEXBARDI_VERSION as the archive was built with it. A program whose header is of another version must
- * not use the archive: the layouts may differ. */
+/* KEXBARDI_VERSION as the library was built with it. A program must not use a library whose major number is not
+ * its header's: layouts and parameters differ. One that wants the very answers it was tested with compares the
+ * whole number. */
 uint32_t kexbardi_version(void);
 
 /* Words and records as at reset: all words 0, all numbers 0.
@@ -128,27 +200,27 @@ uint8_t kexbardi_reset(uint16_t *words, size_t words_length, int64_t *records, s
  * Answers 5 where words_length is not 1,024 or records_length is not 128; 6 where the address is above 1,023
  * or one that is not the caller's to store (offset 3, 4, 6 or 29 of a loop); else 0, and that one word has the
  * value. */
-uint8_t kexbardi_store(uint16_t *words, size_t words_length, int64_t *records, size_t records_length, uint16_t address,
+uint8_t kexbardi_store(uint16_t *words, size_t words_length, int64_t *records, size_t records_length, uint64_t address,
     uint16_t value);
 
 /* What kexbardi_sample writes to its line: what the program `drill` prints of a sample. */
 enum kexbardi_line { KEXBARDI_LINE_SETPOINT = 0, KEXBARDI_LINE_PV = 1, KEXBARDI_LINE_OUTPUT = 2, KEXBARDI_LINE_STATUS = 3 };
 
-/* One sample of a loop, 1 to 16, with a raw PV.
+/* One sample of a loop, 1 to 16, with a raw PV (A1 to A12).
  * Answers the first of these that holds: 5 for words_length not 1,024 or records_length not 128; 4 for no
- * such loop; 5 where a number of the loop's record is out of range; 7, 8, 9. Else 0: words 0, 2, 3, 4, 5 and
- * 6 of the loop, its record and the line are written, and nothing else. Other loops' records are not looked
+ * such loop; 5 where a number of the loop's record is out of range; 7, 8, 9. Else 0: words 0, 2, 3, 5 and 6
+ * of the loop, word 4 too in position form outside Manual, its record and the line are written, and nothing else. Other loops' records are not looked
  * at, and may hold anything. */
-uint8_t kexbardi_sample(uint16_t *words, size_t words_length, int64_t *records, size_t records_length, uint8_t loop, uint16_t raw,
+uint8_t kexbardi_sample(uint16_t *words, size_t words_length, int64_t *records, size_t records_length, uint64_t loop, uint64_t raw,
     uint16_t line[4]);
 
 /* The numbers of a loop's record copied out as they stand, if all are in range: the way to test a desk that
  * was loaded.
  * Answers 5 where records_length is not 128; 4 for no such loop; 5 where a number of the record is out of
  * range; else 0, and `fields` has the eight numbers. */
-uint8_t kexbardi_record(const int64_t *records, size_t records_length, uint8_t loop, int64_t fields[8]);
+uint8_t kexbardi_record(const int64_t *records, size_t records_length, uint64_t loop, int64_t fields[8]);
 
-/* A whole drill file, of any length, carried out on the words and records.
+/* A whole drill file (L1 to L8), of any length, carried out on the words and records.
  * Answers 5 where words_length is not 1,024 or records_length is not 128; nothing is read then, and nothing
  * written, not into `answers` either. Else 0: each record of the file is carried out or refused, `count` says
  * how many there were and `refused` how many of them were refused, and the answer to each (0 or its number)
@@ -160,9 +232,12 @@ uint8_t kexbardi_run(const uint8_t *file, size_t file_length, uint16_t *words, s
 /* Room that is enough for what kexbardi_print writes of a file of a length. */
 #define KEXBARDI_PRINT_ROOM(file_length) (10 * (size_t)(file_length) + 100)
 
-/* What the program `drill` prints of a file, carried out from reset on words of its own: a line for each
- * record and a last line, or `too long` where the file is above 65,536 bytes. It ends with a newline; no
- * zero byte follows.
+/* The longest file that kexbardi_print and the program `drill` print; of a longer one the text is `too long`. */
+#define KEXBARDI_LONGEST 65536
+
+/* What the program `drill` prints of a file (L9 to L11), carried out from reset on words of its own: a line
+ * for each record and a last line, or `too long` where the file is above KEXBARDI_LONGEST bytes. It ends with
+ * a line feed; no zero byte follows.
  * Answers 5 where out_length is below KEXBARDI_PRINT_ROOM (9 for a file that is too long); else 0: the text
  * stands at the start of `out`, and `length` is its length. Bytes behind it stay. */
 uint8_t kexbardi_print(const uint8_t *file, size_t file_length, uint8_t *out, size_t out_length, size_t *length);

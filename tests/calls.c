@@ -70,17 +70,17 @@ static uint8_t reset_of(size_t words_length, size_t records_length) {
     return answer;
 }
 
-static uint8_t store_of(size_t words_length, size_t records_length, unsigned address, unsigned value) {
+static uint8_t store_of(size_t words_length, size_t records_length, uint64_t address, unsigned value) {
     keep();
-    uint8_t answer = kexbardi_store(words, words_length, records, records_length, (uint16_t)address, (uint16_t)value);
+    uint8_t answer = kexbardi_store(words, words_length, records, records_length, address, (uint16_t)value);
     if (answer == 0 && address < KEXBARDI_WORDS) before.words[GUARD + address] = (uint16_t)value;
     nothing_else_changed(answer);
     return answer;
 }
 
-static uint8_t sample_of(size_t words_length, size_t records_length, unsigned loop, unsigned raw) {
+static uint8_t sample_of(size_t words_length, size_t records_length, uint64_t loop, uint64_t raw) {
     keep();
-    uint8_t answer = kexbardi_sample(words, words_length, records, records_length, (uint8_t)loop, (uint16_t)raw, line);
+    uint8_t answer = kexbardi_sample(words, words_length, records, records_length, loop, raw, line);
     if (answer == 0 && loop >= 1 && loop <= KEXBARDI_LOOPS) {
         const uint16_t *w = words + KEXBARDI_ADDRESS(loop, 0);
         before.words[GUARD + KEXBARDI_ADDRESS(loop, 0)] &= 0xfff8; /* the request bits are cleared, the others stay */
@@ -93,9 +93,9 @@ static uint8_t sample_of(size_t words_length, size_t records_length, unsigned lo
     return answer;
 }
 
-static uint8_t record_of(size_t records_length, unsigned loop) {
+static uint8_t record_of(size_t records_length, uint64_t loop) {
     keep();
-    uint8_t answer = kexbardi_record(records, records_length, (uint8_t)loop, fields);
+    uint8_t answer = kexbardi_record(records, records_length, loop, fields);
     if (answer == 0 && loop >= 1 && loop <= KEXBARDI_LOOPS)
         memcpy(before.fields + GUARD, records + KEXBARDI_FIELDS * (loop - 1), KEXBARDI_FIELDS * sizeof *fields);
     nothing_else_changed(answer);
@@ -132,11 +132,11 @@ static uint8_t print_of(const uint8_t *from, size_t bytes, size_t room) {
 
 static uint8_t reset(void) { return reset_of(KEXBARDI_WORDS, KEXBARDI_NUMBERS); }
 
-static uint8_t store(unsigned address, unsigned value) { return store_of(KEXBARDI_WORDS, KEXBARDI_NUMBERS, address, value); }
+static uint8_t store(uint64_t address, unsigned value) { return store_of(KEXBARDI_WORDS, KEXBARDI_NUMBERS, address, value); }
 
-static uint8_t sample(unsigned loop, unsigned raw) { return sample_of(KEXBARDI_WORDS, KEXBARDI_NUMBERS, loop, raw); }
+static uint8_t sample(uint64_t loop, uint64_t raw) { return sample_of(KEXBARDI_WORDS, KEXBARDI_NUMBERS, loop, raw); }
 
-static uint8_t record(unsigned loop) { return record_of(KEXBARDI_NUMBERS, loop); }
+static uint8_t record(uint64_t loop) { return record_of(KEXBARDI_NUMBERS, loop); }
 
 static uint8_t run(size_t room) { return run_of(KEXBARDI_WORDS, KEXBARDI_NUMBERS, room); }
 
@@ -422,9 +422,9 @@ static void order(void) {
 }
 
 static void loops(void) {
-    static const uint8_t none[] = {0, 17, 18, 32, 128, 240, 255};
+    static const uint64_t none[] = {0, 17, 18, 32, 128, 240, 255, 256, 257, (uint64_t)-1};
     begin_loop_a("no such loop");
-    for (size_t n = 0; n < sizeof none; n++) {
+    for (size_t n = 0; n < sizeof none / sizeof *none; n++) {
         equals("sample", sample(none[n], 1000), 4);
         equals("record", record(none[n]), 4);
         memset(records, 0xff, KEXBARDI_NUMBERS * sizeof *records);
@@ -445,7 +445,7 @@ static int engines_own(unsigned address) {
 }
 
 static void stores(void) {
-    static const uint16_t far_off[] = {1024, 1025, 1056, 2048, 4095, 32767, 32768, 65535};
+    static const uint64_t far_off[] = {1024, 1025, 1056, 2048, 4095, 32767, 32768, 65535, 65536};
     begin("stores");
     for (unsigned address = 0; address < KEXBARDI_WORDS; address++)
         equals("store", store(address, 40000 + address), engines_own(address) ? KEXBARDI_STORE : KEXBARDI_ACCEPTED);
@@ -522,6 +522,49 @@ static void raw_above(void) {
     begin_loop_a("16 bits");
     store(1, 512);
     equals("65,535", sample(1, 65535), 0);
+}
+
+/* Numbers that need more bits than a loop, an address or a raw PV has; the lowest bits of most name one that there is. */
+static const uint64_t wide_loops[] = {257, 65537, ((uint64_t)1 << 32) + 1, (uint64_t)-15, (uint64_t)-1},
+                      wide_addresses[] = {65536 + 5, ((uint64_t)1 << 32) + 5, (uint64_t)-1},
+                      wide_raws[] = {65536, 65536 + 1000, ((uint64_t)1 << 32) + 1000, (uint64_t)-1};
+
+static void wide_loop(uint64_t loop) {
+    equals("sample", sample(loop, 1000), 4);
+    equals("record", record(loop), 4);
+    equals("sample: 5 before 4", sample_of(1023, 128, loop, 1000), 5);
+    equals("record: 5 before 4", record_of(127, loop), 5);
+    for (int n = 0; n < 4; n++) equals("4 before 9", sample(loop, wide_raws[n]), 4);
+}
+
+static void wide_raw(uint64_t raw) {
+    const struct lent kept = lent;
+    equals("sample", sample(1, raw), 9);
+    equals("no such loop", sample(17, raw), 4);
+    equals("1,023 words", sample_of(1023, 128, 1, raw), 5);
+    words[KEXBARDI_RESET] = 0;
+    equals("8 before 9", sample(1, raw), 8);
+    words[KEXBARDI_GAIN] = 0x000a;
+    equals("7 before 8 and 9", sample(1, raw), 7);
+    lent = kept;
+}
+
+static void wide(void) {
+    static const uint16_t mode_2s[] = {0, 2, 512};
+    begin_loop_a("a loop of many bits");
+    equals("loop 1", sample(1, 1000), 0);
+    for (int n = 0; n < 5; n++) wide_loop(wide_loops[n]);
+    begin_loop_a("an address of many bits");
+    for (int n = 0; n < 3; n++) {
+        equals("store", store(wide_addresses[n], 7), 6);
+        equals("5 before 6", store_of(1024, 127, wide_addresses[n], 7), 5);
+    }
+    for (int m = 0; m < 3; m++) {
+        begin_loop_a("a raw PV of many bits");
+        store(1, mode_2s[m]);
+        for (int n = 0; n < 4; n++) wide_raw(wide_raws[n]);
+        equals("1,000", sample(1, 1000), 0);
+    }
 }
 
 /* ---- records of the caller's own making: what no drill file can show */
@@ -1096,6 +1139,7 @@ int main(void) {
     digits();
     settings_refused();
     raw_above();
+    wide();
     lent_ends();
     first_samples();
     change_alarms();

@@ -7,7 +7,7 @@ what the program `drill` prints of examples/loop-a.drill, and fails where a call
 import ctypes
 import re
 import sys
-from ctypes import c_int64, c_size_t, c_uint8, c_uint16, c_uint32
+from ctypes import c_int64, c_size_t, c_uint8, c_uint16, c_uint32, c_uint64
 
 library = ctypes.CDLL(sys.argv[1])
 with open(sys.argv[2], encoding="ascii") as header:
@@ -29,9 +29,9 @@ def function(name, answer, *parameters):
 
 version_of = function("kexbardi_version", c_uint32)
 reset = function("kexbardi_reset", c_uint8, *DESK)
-store = function("kexbardi_store", c_uint8, *DESK, c_uint16, c_uint16)
-sample = function("kexbardi_sample", c_uint8, *DESK, c_uint8, c_uint16, ctypes.POINTER(c_uint16))
-record = function("kexbardi_record", c_uint8, ctypes.POINTER(c_int64), c_size_t, c_uint8, ctypes.POINTER(c_int64))
+store = function("kexbardi_store", c_uint8, *DESK, c_uint64, c_uint16)
+sample = function("kexbardi_sample", c_uint8, *DESK, c_uint64, c_uint64, ctypes.POINTER(c_uint16))
+record = function("kexbardi_record", c_uint8, ctypes.POINTER(c_int64), c_size_t, c_uint64, ctypes.POINTER(c_int64))
 
 words, records, line, fields = Words(), Records(), Line(), Fields()
 desk = (words, len(words), records, len(records))
@@ -58,7 +58,7 @@ for at in range(len(records)):
 holds("reset", reset(*desk), 0)
 holds("the desk after reset", (any(words), any(records)), (False, False))
 
-for loop in (0, 17, 255):
+for loop in (0, 17, 255, 257, 2**64 - 15):
     refused(4, sample, *desk, loop, 0, line)
     refused(4, record, records, len(records), loop, fields)
 refused(5, reset, words, 1023, records, 128)
@@ -68,7 +68,7 @@ records[7] = 2
 refused(5, sample, *desk, 1, 0, line)
 refused(5, record, records, len(records), 1, fields)
 records[7] = 0
-for address in (3, 4, 6, 29, 1024, 65535):
+for address in (3, 4, 6, 29, 1024, 65535, 65541, 2**64 - 1):
     refused(6, store, *desk, address, 1)
 
 STORES = [(5, 2000), (25, 4095), (7, 0x0100), (8, 0x0200), (9, 0x1000), (0, 2)]

@@ -24,6 +24,7 @@ struct desk {
 static struct desk ours, plain;
 static uint64_t seed;
 static unsigned long calls, wanted, accepted, refusals[10];
+static unsigned long wide_refusals[10]; /* of calls with a number that an 8- or 16-bit parameter would cut */
 static uint8_t file[LONGEST];
 static size_t size;
 
@@ -76,10 +77,18 @@ static size_t length_of(size_t right) {
     return once_in(5) ? 0 : right + (size_t)off[any(4)];
 }
 
-static void store(unsigned address, unsigned value) {
+/* The number, or once in 300 one that needs more than these bits, mostly with the same lowest bits. */
+static uint64_t widened(uint64_t number, unsigned bits) {
+    if (any(300)) return number;
+    return once_in(4) ? (uint64_t)any64() : number + ((uint64_t)(1 + any(255)) << (bits + any(56 - bits)));
+}
+
+static void store(unsigned number, unsigned value) {
+    uint64_t address = widened(number, 16);
     size_t words = length_of(KEXBARDI_WORDS), records = length_of(KEXBARDI_NUMBERS);
-    uint8_t a = kexbardi_store(ours.words, words, ours.records, records, (uint16_t)address, (uint16_t)value);
-    compare("store", a, plain_store(plain.words, words, plain.records, records, (uint16_t)address, (uint16_t)value));
+    uint8_t a = kexbardi_store(ours.words, words, ours.records, records, address, (uint16_t)value);
+    compare("store", a, plain_store(plain.words, words, plain.records, records, address, (uint16_t)value));
+    wide_refusals[a] += address > 65535;
 }
 
 /* The instructor's hand: a word written without a call. */
@@ -218,13 +227,15 @@ static unsigned raw_pv(const uint16_t *w) {
 }
 
 /* Answers the refusal. */
-static uint8_t sample(unsigned loop) {
+static uint8_t sample(unsigned number) {
+    uint64_t loop = widened(number, 8);
     const uint16_t *w = ours.words + KEXBARDI_LOOP_WORDS * ((loop - 1) % KEXBARDI_LOOPS);
     unsigned mode_1 = w[0];
-    uint16_t raw = (uint16_t)raw_pv(w);
+    uint64_t raw = widened(raw_pv(w), 16);
     size_t words = length_of(KEXBARDI_WORDS), records = length_of(KEXBARDI_NUMBERS);
-    uint8_t a = kexbardi_sample(ours.words, words, ours.records, records, (uint8_t)loop, raw, ours.line);
-    compare("sample", a, plain_sample(plain.words, words, plain.records, records, (uint8_t)loop, raw, plain.line));
+    uint8_t a = kexbardi_sample(ours.words, words, ours.records, records, loop, raw, ours.line);
+    compare("sample", a, plain_sample(plain.words, words, plain.records, records, loop, raw, plain.line));
+    wide_refusals[a] += loop > 255 || raw > 65535;
     if (a == 0) {
         accepted++;
         count_features(mode_1, w, ours.records + KEXBARDI_FIELDS * (loop - 1), ours.line[KEXBARDI_LINE_SETPOINT],
@@ -233,10 +244,12 @@ static uint8_t sample(unsigned loop) {
     return a;
 }
 
-static void record(unsigned loop) {
+static void record(unsigned number) {
+    uint64_t loop = widened(number, 8);
     size_t records = length_of(KEXBARDI_NUMBERS);
-    uint8_t a = kexbardi_record(ours.records, records, (uint8_t)loop, ours.fields);
-    compare("record", a, plain_record(plain.records, records, (uint8_t)loop, plain.fields));
+    uint8_t a = kexbardi_record(ours.records, records, loop, ours.fields);
+    compare("record", a, plain_record(plain.records, records, loop, plain.fields));
+    wide_refusals[a] += loop > 255;
     if (memcmp(ours.fields, plain.fields, sizeof ours.fields) != 0) differ("record", "fields");
 }
 
@@ -305,9 +318,12 @@ static void turn(void) {
 }
 
 static int report(void) {
+    static const int wide[] = {4, 6, 9};
     int missing = 0;
     printf("%lu calls, %lu samples accepted\n", calls, accepted);
     for (int n = 1; n <= 9; n++) printf("refused with %d: %lu\n", n, refusals[n]), missing += refusals[n] == 0;
+    for (int n = 0; n < 3; n++)
+        printf("refused with %d by a wide number: %lu\n", wide[n], wide_refusals[wide[n]]), missing += wide_refusals[wide[n]] == 0;
     for (int n = 0; n < FEATURES; n++) printf("accepted, %s: %lu\n", feature_names[n], features[n]), missing += features[n] == 0;
     if (missing) printf("%d of these never happened\n", missing);
     else printf("%lu calls: equal\n", calls);

@@ -43,8 +43,8 @@ static void fail(long at, const char *what) {
 }
 
 static void store(unsigned address, unsigned value) {
-    uint8_t a = kexbardi_store(ours.words, KEXBARDI_WORDS, ours.records, KEXBARDI_NUMBERS, (uint16_t)address, (uint16_t)value);
-    uint8_t b = plain_store(plain.words, KEXBARDI_WORDS, plain.records, KEXBARDI_NUMBERS, (uint16_t)address, (uint16_t)value);
+    uint8_t a = kexbardi_store(ours.words, KEXBARDI_WORDS, ours.records, KEXBARDI_NUMBERS, address, (uint16_t)value);
+    uint8_t b = plain_store(plain.words, KEXBARDI_WORDS, plain.records, KEXBARDI_NUMBERS, address, (uint16_t)value);
     if (a != 0 || b != 0) fail(0, "a store is refused");
 }
 
@@ -120,8 +120,8 @@ static void compare(long at) {
 
 static void sample(long at, unsigned loop) {
     uint16_t raw = measure(loop);
-    uint8_t a = kexbardi_sample(ours.words, KEXBARDI_WORDS, ours.records, KEXBARDI_NUMBERS, (uint8_t)loop, raw, ours.line);
-    uint8_t b = plain_sample(plain.words, KEXBARDI_WORDS, plain.records, KEXBARDI_NUMBERS, (uint8_t)loop, raw, plain.line);
+    uint8_t a = kexbardi_sample(ours.words, KEXBARDI_WORDS, ours.records, KEXBARDI_NUMBERS, loop, raw, ours.line);
+    uint8_t b = plain_sample(plain.words, KEXBARDI_WORDS, plain.records, KEXBARDI_NUMBERS, loop, raw, plain.line);
     if (a != b) fail(at, "the answers differ");
     if (a != 0) fail(at, "both refuse");
     if (memcmp(ours.line, plain.line, sizeof ours.line) != 0) fail(at, "the lines differ");

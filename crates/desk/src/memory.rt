@@ -5,6 +5,8 @@ use table::WORDS;
 ghost use mathlib.Core.Path.{_≡_};
 ghost use Rattle.desk.specs.Desk.{lent, fittingOf, noLoop};
 
+const LAST_LOOP: u64 = LOOPS as u64;
+
 pub fn fitting(words: &[u16], numbers: &[i64]) -> bool
     ensures { λ r. ⌜ r ≡ fittingOf (lent (now (words .entry)) (now (numbers .entry))) ⌝ }
 {
@@ -12,8 +14,8 @@ pub fn fitting(words: &[u16], numbers: &[i64]) -> bool
 }
 
 // There is no loop of that number.
-pub(crate) fn no_loop(number: u8) -> bool
+pub(crate) fn no_loop(number: u64) -> bool
     ensures { λ r. ⌜ r ≡ noLoop number ⌝ }
 {
-    (number < 1) | (LOOPS < number)
+    (number < 1) | (LAST_LOOP < number)
 }

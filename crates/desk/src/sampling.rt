@@ -27,7 +27,7 @@ fn carry_out(
     numbers: &mut [i64],
     carried: Carried,
     number: u8,
-    raw: u16,
+    raw: u64,
 ) -> Answer
     requires { ⌜ (baseOf number + 32 ≤ length (now words)) × (slotOf number + fieldCount ≤ length (now numbers)) ⌝ }
     requires { ⌜ (carried ≡ recordAt (now numbers) number) × Ranged carried ⌝ }
@@ -41,7 +41,7 @@ fn carry_out(
     match answer {
         Answer::Refused(why) => Answer::Refused(why),
         Answer::Accepted => {
-            let done = engine::step(reading, carried, raw);
+            let done = engine::step(reading, carried, raw as u16);
             let written = done.written;
             let next = done.carried;
             write_words(words, number, written);
@@ -52,7 +52,7 @@ fn carry_out(
 }
 
 // A sample of loop `number` with the raw PV `raw`.
-pub fn sample(words: &mut [u16], numbers: &mut [i64], number: u8, raw: u16) -> Answer
+pub fn sample(words: &mut [u16], numbers: &mut [i64], number: u64, raw: u64) -> Answer
     ensures answer { λ r. ⌜ r ≡ sampleAnswer (lent (now (words .entry)) (now (numbers .entry))) number raw ⌝ }
     ensures left { λ _. ⌜ lent (now (words .exit)) (now (numbers .exit)) ≡ sampleLeft (lent (now (words .entry)) (now (numbers .entry))) number raw ⌝ }
 {
@@ -62,10 +62,11 @@ pub fn sample(words: &mut [u16], numbers: &mut [i64], number: u8, raw: u16) -> A
     if no_loop(number) {
         return Answer::Refused(Refusal::Loop);
     }
-    let found = numbers_at(numbers, slot_of(number));
+    let k = number as u8;
+    let found = numbers_at(numbers, slot_of(k));
     if out_of_range(found) {
         return Answer::Refused(Refusal::Record);
     }
     let carried = record_of(found);
-    carry_out(words, numbers, carried, number, raw)
+    carry_out(words, numbers, carried, k, raw)
 }

@@ -31,7 +31,7 @@ pub fn line(words: &[u16], number: u8) -> [u16; 4]
 }
 
 // The numbers of a loop's record copied out, if they are in range.
-pub fn fields(numbers: &[i64], number: u8, copied: &mut [i64; FIELDS]) -> Answer
+pub fn fields(numbers: &[i64], number: u64, copied: &mut [i64; FIELDS]) -> Answer
     ensures answer { λ r. ⌜ r ≡ fieldsAnswer (now (numbers .entry)) number ⌝ }
     ensures left { λ _. ⌜ now (copied .exit) ≡ fieldsLeft (now (numbers .entry)) number (now (copied .entry)) ⌝ }
 {
@@ -41,7 +41,7 @@ pub fn fields(numbers: &[i64], number: u8, copied: &mut [i64; FIELDS]) -> Answer
     if no_loop(number) {
         return Answer::Refused(Refusal::Loop);
     }
-    let found = numbers_at(numbers, slot_of(number));
+    let found = numbers_at(numbers, slot_of(number as u8));
     if out_of_range(found) {
         return Answer::Refused(Refusal::Record);
     }

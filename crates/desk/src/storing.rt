@@ -11,12 +11,12 @@ use table::WORDS;
 ghost use mathlib.Core.Path.{_≡_};
 ghost use Rattle.desk.specs.Desk.{lent, engineWord, storeAnswer, storeLeft};
 
-const FIRST_FREE: u16 = 512; // words from here on belong to no loop
+const FIRST_FREE: u64 = 512; // words from here on belong to no loop
 
-const LAST_ADDRESS: u16 = WORDS as u16 - 1;
+const LAST_ADDRESS: u64 = WORDS as u64 - 1;
 
 // The words of a loop that no store reaches: PV, bias and status, which samples write, and word 29.
-fn engine_word(address: u16) -> bool
+fn engine_word(address: u64) -> bool
     ensures { λ r. ⌜ r ≡ engineWord address ⌝ }
 {
     let offset = address as usize % LOOP_WORDS;
@@ -25,7 +25,7 @@ fn engine_word(address: u16) -> bool
 }
 
 // No record is looked at; the numbers are lent whole all the same, as to every call.
-pub fn store(words: &mut [u16], numbers: &mut [i64], address: u16, value: u16) -> Answer
+pub fn store(words: &mut [u16], numbers: &mut [i64], address: u64, value: u16) -> Answer
     ensures answer { λ r. ⌜ r ≡ storeAnswer (lent (now (words .entry)) (now (numbers .entry))) address ⌝ }
     ensures left { λ _. ⌜ lent (now (words .exit)) (now (numbers .exit)) ≡ storeLeft (lent (now (words .entry)) (now (numbers .entry))) address value ⌝ }
 {

@@ -8,6 +8,7 @@ use table::Tuning;
 use table::WORDS;
 use table::is_cascade;
 ghost use mathlib.Core.Path.{_≡_};
+ghost use lib.Dec.{ltb};
 ghost use Rattle.refusals.specs.Refusals.{firstOf};
 ghost use Rattle.judging.specs.Judging.{badModes, badTimes, badLimits, badSetpoint, readingCases};
 
@@ -47,8 +48,15 @@ fn bad_setpoint(cascade: bool, scale: u16, setpoint: u16, pointer: u16, remote: 
     (!cascade & (scale < setpoint)) | (cascade & ((LAST_ADDRESS < pointer) | (scale < remote)))
 }
 
+// The raw PV, of any size, above full scale.
+fn above(scale: u16, raw: u64) -> bool
+    ensures { λ r. ⌜ r ≡ ltb scale raw ⌝ }
+{
+    (scale as u64) < raw
+}
+
 // The first refusal whose condition holds, in the table's order.
-pub fn judge(reading: Reading, raw: u16) -> Answer
+pub fn judge(reading: Reading, raw: u64) -> Answer
     ensures { λ r. ⌜ r ≡ firstOf (readingCases reading raw) ⌝ }
 {
     let s = reading.settings;
@@ -73,7 +81,7 @@ pub fn judge(reading: Reading, raw: u16) -> Answer
     if bad_setpoint(cascade, scale, s.stored.setpoint, s.pointer, reading.remote) {
         return Answer::Refused(Refusal::Setting);
     }
-    if scale < raw {
+    if above(scale, raw) {
         return Answer::Refused(Refusal::Above);
     }
     Answer::Accepted

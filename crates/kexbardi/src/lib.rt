@@ -7,16 +7,17 @@
 use desk::FIELDS;
 use refusals::number_of;
 ghost use mathlib.Core.Path.{_≡_};
+ghost use Prim.Native.Nat.{_≤_};
 ghost use Rattle.refusals.specs.Refusals.{numberOf};
 ghost use Rattle.desk.specs.Desk.{lent, resetAnswer, resetLeft, storeAnswer, storeLeft, sampleAnswer, sampleLeft, lineOf, fieldsAnswer, fieldsLeft};
 ghost use Rattle.kexbardi.specs.Interface.{lineBy, lineLeft};
 
 // The version of the interface and of the layout: major, minor and patch as MMmmpp.
-const VERSION: u32 = 20000;
+const VERSION: u32 = 30000;
 
 #[no_mangle]
 pub extern "C" fn kexbardi_version() -> u32
-    ensures { λ r. ⌜ r ≡ 20000 ⌝ }
+    ensures { λ r. ⌜ r ≡ 30000 ⌝ }
 {
     VERSION
 }
@@ -35,7 +36,7 @@ pub extern "C" fn kexbardi_reset(words: &mut [u16], records: &mut [i64]) -> u8
 pub extern "C" fn kexbardi_store(
     words: &mut [u16],
     records: &mut [i64],
-    address: u16,
+    address: u64,
     value: u16,
 ) -> u8
     ensures number { λ r. ⌜ r ≡ numberOf (storeAnswer (lent (now (words .entry)) (now (records .entry))) address) ⌝ }
@@ -45,11 +46,12 @@ pub extern "C" fn kexbardi_store(
 }
 
 // The line of a loop, where the call was accepted.
-fn show(answer: u8, line: &mut [u16; 4], words: &[u16], number: u8)
+fn show(answer: u8, line: &mut [u16; 4], words: &[u16], number: u64)
+    requires { ⌜ (answer ≡ 0 → number ≤ 16) ⌝ }
     ensures { λ _. ⌜ now (line .exit) ≡ lineBy answer (now (line .entry)) (lineOf (now (words .entry)) number) ⌝ }
 {
     if answer == 0 {
-        *line = desk::line(words, number);
+        *line = desk::line(words, number as u8);
     }
 }
 
@@ -59,8 +61,8 @@ fn show(answer: u8, line: &mut [u16; 4], words: &[u16], number: u8)
 pub extern "C" fn kexbardi_sample(
     words: &mut [u16],
     records: &mut [i64],
-    number: u8,
-    raw: u16,
+    number: u64,
+    raw: u64,
     line: &mut [u16; 4],
 ) -> u8
     ensures number { λ r. ⌜ r ≡ numberOf (sampleAnswer (lent (now (words .entry)) (now (records .entry))) number raw) ⌝ }
@@ -74,7 +76,7 @@ pub extern "C" fn kexbardi_sample(
 
 // The numbers of a loop's record, in the order of the layout. 5 or 4.
 #[no_mangle]
-pub extern "C" fn kexbardi_record(records: &[i64], number: u8, fields: &mut [i64; FIELDS]) -> u8
+pub extern "C" fn kexbardi_record(records: &[i64], number: u64, fields: &mut [i64; FIELDS]) -> u8
     ensures number { λ r. ⌜ r ≡ numberOf (fieldsAnswer (now (records .entry)) number) ⌝ }
     ensures left { λ _. ⌜ now (fields .exit) ≡ fieldsLeft (now (records .entry)) number (now (fields .entry)) ⌝ }
 {

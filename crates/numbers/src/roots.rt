@@ -7,13 +7,12 @@ ghost use Rattle.numbers.specs.Roots.{rootOf};
 pub fn root(v: u32) -> u16
     ensures { λ r. ⌜ r ≡ rootOf v ⌝ }
 {
-    let square = v as u64;
-    let mut low: u64 = 0;
-    let mut step: u64 = 65536;
+    let mut low: u32 = 0;
+    let mut step: u32 = 65536;
     for _ in 0u64..16 {
         step = step / 2;
         let next = low + step;
-        if next * next <= square {
+        if next * next <= v {
             low = next;
         }
     }

@@ -12,8 +12,12 @@ pub(crate) fn act(item: Record, words: &mut [u16], numbers: &mut [i64]) -> u8
     ensures left { λ _. ⌜ lent (now (words .exit)) (now (numbers .exit)) ≡ leftFor (lent (now (words .entry)) (now (numbers .entry))) item ⌝ }
 {
     match item {
-        Record::Store(address, value) => number_of(desk::store(words, numbers, address, value)),
-        Record::Sample(number, raw) => number_of(desk::sample(words, numbers, number, raw)),
+        Record::Store(address, value) => {
+            number_of(desk::store(words, numbers, address as u64, value))
+        }
+        Record::Sample(number, raw) => {
+            number_of(desk::sample(words, numbers, number as u64, raw as u64))
+        }
         Record::Refused(why) => number_of(Answer::Refused(why)),
     }
 }

@@ -11,8 +11,8 @@ use borrow.Author.Tests.{eqb-true, not-false, ltb-false, le-ltb}
 use Rattle.refusals.specs.declared.Answer.{Answer}
 use Rattle.refusals.specs.declared.Answer.the-variants.{Accepted}
 use Rattle.refusals.specs.declared.Refusal.the-variants.{Record}
-use Rattle.refusals.specs.Refusals.{_⇒_, firstOf}
-use Rattle.refusals.specs.Refusals.Laws.{accepted-at, accepted-rest}
+use Rattle.refusals.specs.Refusals.{numberOf, _⇒_, firstOf}
+use Rattle.refusals.specs.Refusals.Laws.{accepted-only, accepted-at, accepted-rest}
 use Rattle.table.specs.Words.Laws.{or-false}
 use Rattle.carried.specs.Layout.{numberCount, slotOf, outOfRange, numbersOf, recordFrom, numbersAt, recordAt, resetRecord}
 use Rattle.carried.specs.Layout.Laws.{read-back, numbers-length, put-same, put-other, ranged, in-range}
@@ -94,6 +94,10 @@ sampled d k raw e =
       carried = ranged (numbersAt (d .numbers) (slotOf k)) (loop .range);
       reading = usable (d .words) k (recordAt (d .numbers) k .state .mode) raw (q .1);
     }
+
+-- so an answer of 0 is that of a loop that there is
+pub zero-loop : (d : Desk) (k raw : ℕ) → numberOf (sampleAnswer d k raw) ≡ 0 → (1 ≤ k) × (k ≤ 16)
+zero-loop d k raw e = let s = sampled d k raw (accepted-only _ e) in (s .above, s .below)
 
 -- past N5 and N4 the record and the reading decide
 pub answer-ranged : (d : Desk) (k raw : ℕ) → fittingOf d ≡ true → 1 ≤ k → k ≤ 16

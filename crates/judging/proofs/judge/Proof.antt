@@ -1,6 +1,5 @@
 -- `judging::judge` meets its contract: at each answer, the tests that led there pick the case.
 use borrow.Author.Needs.{needs}
-use borrow.Author.Tests.{lt-ltb, le-ltb}
 use mathlib.Core.Path.{_≡_, sym, ap, _∙_}
 use mathlib.Core.Bool.{Bool, false}
 use Rattle.table.specs.declared.reading.Reading.{Reading}
@@ -74,21 +73,24 @@ returns-5 c =
     let m = t .before .before in
     rw (digit m, modes m, times t, limits l, tested (c .before) ∙ c .if5 .taken)
 
+above-requires : tie.Need-above-requires
+above-requires c κs = search needs
+
 returns-6 : tie.Need-returns-6
 returns-6 c =
-    let s = c .before in
+    let s = c .before .before in
     let l = s .before .before in
     let t = l .before .before in
     let m = t .before .before in
-    rw (digit m, modes m, times t, limits l, tested (s .before) ∙ s .if5 .left, lt-ltb _ _ (c .if6 .taken))
+    rw (digit m, modes m, times t, limits l, tested (s .before) ∙ s .if5 .left, sym (c .before .above .ensures) ∙ c .if6 .taken)
 
 returns-7 : tie.Need-returns-7
 returns-7 c =
-    let s = c .before in
+    let s = c .before .before in
     let l = s .before .before in
     let t = l .before .before in
     let m = t .before .before in
-    rw (digit m, modes m, times t, limits l, tested (s .before) ∙ s .if5 .left, le-ltb _ _ (c .if6 .left))
+    rw (digit m, modes m, times t, limits l, tested (s .before) ∙ s .if5 .left, sym (c .before .above .ensures) ∙ c .if6 .left)
 
 pub judge-spec : {M : Type 1} → statement M
 judge-spec =
@@ -104,5 +106,6 @@ judge-spec =
     returns-4
     bad-setpoint-requires
     returns-5
+    above-requires
     returns-6
     returns-7)

@@ -1,14 +1,17 @@
 -- `desk::carry_out` meets its contract: the reading is that of the record's mode, judged as the definition judges it, and stepped.
+use native.Mathlib.Omega.{arith}
 use mathlib.Core.Path.{_≡_, sym, ap, _∙_}
 use denote.Ref.{now}
 use Rattle.refusals.specs.declared.Answer.the-variants.{Accepted}
 use Rattle.refusals.specs.Refusals.{firstOf}
 use Rattle.table.specs.declared.reading.Reading.{Reading}
 use Rattle.table.specs.Reading.{readingOf}
+use Rattle.table.specs.Reading.Laws.{input-high}
 use Rattle.carried.specs.declared.record.Carried.{Carried}
 use Rattle.judging.specs.Judging.{readingCases}
 use Rattle.engine.specs.Steps.{stepOf}
 use Rattle.engine.specs.Steps.Laws.{usable}
+use Rattle.engine.specs.Premises.{Usable}
 use Rattle.desk.specs.Desk.{lent, judgedAnswer, stepAt, sampleDone}
 use Rattle.desk.specs.Desk.Laws.{promised}
 use borrow.Author.Needs.{needs}
@@ -47,13 +50,21 @@ module _ (c : tie.After-judge) where
 accepted : (c : tie.After-enum-told) → c .before .before .judge .result ≡ Accepted
 accepted c = c .enum-told .given .1
 
+-- and so what was read is usable, the raw PV within full scale
+read : (c : tie.After-enum-told) → let a = start (c .before .before) .args in
+    Usable (readingOf (now (a .words)) (a .number) (a .carried .state .mode)) (a .raw)
+unfolding start
+read c = usable _ _ _ _ (sym (judged (c .before .before)) ∙ accepted c)
+
+cast-step : tie.Need-cast-step
+unfolding start
+cast-step c =
+    let a = start (c .before .before) .args in
+    omega (arith, read c .input, input-high (now (a .words)) (a .number) (a .carried .state .mode))
+
 step-requires : tie.Need-step-requires
 unfolding start
-step-requires c κs =
-    let j = c .before .before in
-    let s = start j in
-    let a = s .args in
-    (rw (j .before .read-loop .ensures) (usable (now (a .words)) (a .number) (a .carried .state .mode) (a .raw) (sym (judged j) ∙ accepted c)), s .pre .1 .1)
+step-requires c κs = let j = c .before .before in (rw (j .before .read-loop .ensures) (read c), start j .pre .1 .1)
 
 stepped : (c : tie.After-step) → let a = start (c .before .before .before) .args in
     c .step .result ≡ stepAt (lent (now (a .words)) (now (a .numbers))) (a .number) (a .raw)
@@ -112,6 +123,7 @@ carry-out-spec =
     judge-requires
     enum-known-answer
     enum-told
+    cast-step
     step-requires
     write-words-requires
     slot-of-requires

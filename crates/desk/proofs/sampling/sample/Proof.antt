@@ -51,6 +51,10 @@ there : (c : tie.Else2) → noLoop (start c .args .number) ≡ false
 unfolding start
 there c = sym (c .before .no-loop .ensures) ∙ c .if2 .left
 
+cast-k : tie.Need-cast-k
+unfolding start
+cast-k c = omega (arith, loop-there (start c .args .number) (there c))
+
 slot-of-requires : tie.Need-slot-of-requires
 slot-of-requires c κs = search needs
 
@@ -132,6 +136,7 @@ sample-spec =
     same-length-3
     same-length-4
     returns-2
+    cast-k
     slot-of-requires
     numbers-at-requires
     out-of-range-requires

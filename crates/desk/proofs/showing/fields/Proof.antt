@@ -23,12 +23,15 @@ returns-2 : tie.Need-returns-2
 unfolding fieldsAnswer fieldsLeft
 returns-2 c = copied _ _ (simp (eq-eqb _ _ (c .before .before .if1 .left), sym (c .before .no-loop .ensures) ∙ c .if2 .taken))
 
-slot-of-requires : tie.Need-slot-of-requires
-slot-of-requires c κs = search needs
-
 -- there is such a loop
 there : (c : tie.Else2) → noLoop (c .before .before .before .args .number) ≡ false
 there c = sym (c .before .no-loop .ensures) ∙ c .if2 .left
+
+cast-slot-of : tie.Need-cast-slot-of
+cast-slot-of c = omega (arith, loop-there (c .before .before .before .args .number) (there c))
+
+slot-of-requires : tie.Need-slot-of-requires
+slot-of-requires c κs = search needs
 
 numbers-at-requires : tie.Need-numbers-at-requires
 numbers-at-requires c κs =
@@ -73,6 +76,7 @@ fields-spec =
     returns
     no-loop-requires
     returns-2
+    cast-slot-of
     slot-of-requires
     numbers-at-requires
     out-of-range-requires

@@ -4,17 +4,17 @@ use mathlib.Core.Path.{_≡_, ap, _∙_}
 use mathlib.Core.Logic.{⊎-elim}
 use Prim.Native.Nat.{ℕ, suc, _+_, _*_, _-_, _/_, _^_, _≤_, _<_}
 use native.Mathlib.Omega.{arith}
-use native.Mathlib.Nat.{mul-le-mul, pow-suc}
+use native.Mathlib.Nat.{mul-le-mul, pow-suc, pow-le-pow-right}
 use Rattle.numbers.specs.Roots.Laws.{root-exact, root-only}
 use Rattle.numbers.proofs.roots.root.Statement.{statement}
 use Rattle.numbers.proofs.roots.root.Tie as tie
 
 abbrev Inv-loop : tie.InvT-loop
-Inv-loop v square low₀ step₀ counter₀ low step counter =
-    (counter ≤ 16) × (step ≡ 2 ^ (16 - counter)) × (low + step ≤ 65536) × (low * low ≤ square) × (square < (low + step) * (low + step))
+Inv-loop v low₀ step₀ counter₀ low step counter =
+    (counter ≤ 16) × (step ≡ 2 ^ (16 - counter)) × (low + step ≤ 65536) × (low * low ≤ v) × (v < (low + step) * (low + step))
 
 abbrev μ-loop : tie.MeasureT-loop
-μ-loop v square low₀ step₀ counter₀ low step counter = 16 - counter
+μ-loop v low₀ step₀ counter₀ low step counter = 16 - counter
 
 -- a power of two, halved
 halved : (k : ℕ) → k < 16 → 2 ^ (16 - k) ≡ 2 * 2 ^ (16 - (k + 1))
@@ -31,7 +31,8 @@ add-next c = omega arith
 mul-if1 : tie.Need-mul-if1 Inv-loop μ-loop
 mul-if1 c =
     let l = c .before .loop in
-    let h : l .low + l .step / 2 ≤ 65536 = omega arith in
+    let some = pow-le-pow-right {n = 2} (omega arith) {i = 0} {j = 16 - (l .counter + 1)} (omega arith) in
+    let h : l .low + l .step / 2 ≤ 65535 = omega (arith, halved (l .counter) (omega arith), some) in
     omega (arith, mul-le-mul h h)
 
 add-counter : tie.Need-add-counter Inv-loop μ-loop

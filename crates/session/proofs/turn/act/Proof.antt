@@ -9,6 +9,9 @@ use Rattle.session.proofs.turn.act.Tie as tie
 enum-known-item : tie.Need-enum-known-item
 enum-known-item c = search needs
 
+cast-store : tie.Need-cast-store
+cast-store c = search needs
+
 store-requires : tie.Need-store-requires
 store-requires c κs = search needs
 
@@ -17,6 +20,12 @@ number-of-requires c κs = search needs
 
 enum-known-item-2 : tie.Need-enum-known-item-2
 enum-known-item-2 c = search needs
+
+cast-sample : tie.Need-cast-sample
+cast-sample c = search needs
+
+cast-sample-2 : tie.Need-cast-sample-2
+cast-sample-2 c = search needs
 
 sample-requires : tie.Need-sample-requires
 sample-requires c κs = search needs
@@ -62,9 +71,12 @@ act-spec =
     tie.close
     (tie.spec
     enum-known-item
+    cast-store
     store-requires
     number-of-requires
     enum-known-item-2
+    cast-sample
+    cast-sample-2
     sample-requires
     number-of-requires-2
     enum-known-item-3
