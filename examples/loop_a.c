@@ -1,6 +1,6 @@
 /* Loop A through the C interface: a desk of sixteen loops, six stores that set loop 1 up, two samples, and a
  * sample that is refused. It prints what the program `drill` prints of examples/loop-a.drill.
- * In the folder that package/make makes:  gcc -std=c99 -Iinclude examples/loop_a.c lib/libkexbardi.a */
+ * In the package's folder:  cc -std=c99 -Iinclude examples/loop_a.c lib/libkexbardi.a */
 #include "kexbardi.h"
 
 #include <stdio.h>
@@ -25,16 +25,16 @@ static void store(unsigned address, uint16_t value) {
 }
 
 static void sample(unsigned loop, unsigned raw) {
-    uint16_t line[4];
+    uint16_t line[KEXBARDI_LINE_WORDS];
     if (refused(kexbardi_sample(words, KEXBARDI_WORDS, records, KEXBARDI_NUMBERS, loop, raw, line))) return;
     printf("%u loop %u sp %u pv %u out %u word %04X\n", calls, loop, line[KEXBARDI_LINE_SETPOINT], line[KEXBARDI_LINE_PV],
         line[KEXBARDI_LINE_OUTPUT], line[KEXBARDI_LINE_STATUS]);
 }
 
 int main(void) {
-    /* Header and library have to be of one version: the layouts may differ. */
-    if (kexbardi_version() != KEXBARDI_VERSION) {
-        fprintf(stderr, "kexbardi.h and the library are of different versions\n");
+    /* Header and library have to be of one major version: else layouts and parameters differ. */
+    if (KEXBARDI_MAJOR(kexbardi_version()) != KEXBARDI_MAJOR(KEXBARDI_VERSION)) {
+        fprintf(stderr, "kexbardi.h and the library are of different major versions\n");
         return 1;
     }
     if (kexbardi_reset(words, KEXBARDI_WORDS, records, KEXBARDI_NUMBERS) != KEXBARDI_ACCEPTED) return 1;

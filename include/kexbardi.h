@@ -35,20 +35,23 @@
 extern "C" {
 #endif
 
-/* The version: major, minor, patch as MMmmpp. CHANGELOG.md says what a change of each means.
- * In the sources the number stands in crates/kexbardi alone; package/make writes it in here. */
+/* The version: major, minor, patch as MMmmpp, written in when the part is packaged. CHANGELOG.md says what a
+ * change of each means. */
 #define KEXBARDI_VERSION @VERSION@
+#define KEXBARDI_MAJOR(version) ((version) / 10000)
 
-/* Desks that were saved with any version from this one up to KEXBARDI_VERSION may be loaded. */
+/* Desks that were saved with any version from this one up to kexbardi_version() may be loaded. */
 #define KEXBARDI_OLDEST_SAVE 10000
 
 /* ---- the words (W1, W2) */
 
 #define KEXBARDI_LOOPS 16
 #define KEXBARDI_WORDS 1024     /* length of the words */
-#define KEXBARDI_LOOP_WORDS 32  /* words of each loop; words 512 to 1,023 are free for other data */
+#define KEXBARDI_LOOP_WORDS 32  /* words of each loop */
+#define KEXBARDI_FIRST_FREE 512 /* words from here to 1,023 belong to no loop */
 
-/* The address of a loop's word; loops count from 1, `offset` is one of those below. */
+/* The address of a loop's word; loops count from 1, `offset` is one of those below. Nothing is tested here: a loop
+ * above 16 gives a free word, and a store there is accepted. */
 #define KEXBARDI_ADDRESS(loop, offset) (KEXBARDI_LOOP_WORDS * ((loop) - 1) + (offset))
 
 enum kexbardi_word {
@@ -80,15 +83,25 @@ enum kexbardi_word {
 /* BCD (W3): period, gain, reset and rate are four decimal digits, one in each four bits, and count
  * hundredths. 2.00 is 200 hundredths and the word 0x0200; the plain number 200 is 0x00C8, whose C is no digit,
  * and a sample with it is refused with 7.
- * KEXBARDI_BCD(200) is 0x0200. What is above 9999 or negative becomes 0xFFFF, which is refused with 7 as well. */
+ * KEXBARDI_BCD takes whole hundredths: KEXBARDI_BCD(200) is 0x0200. KEXBARDI_BCD_OF takes the value itself, as a
+ * double or an integer, and rounds it: KEXBARDI_BCD_OF(2.00) is 0x0200. What four digits cannot hold (negative,
+ * above 99.99, no number) becomes 0xFFFF, which is refused with 7 as well. The arguments are evaluated more
+ * than once. */
 #define KEXBARDI_BCD(hundredths) \
-    ((uint16_t)((uint64_t)(hundredths) > 9999 ? 0xFFFF : \
-        (uint64_t)(hundredths) / 1000 * 4096 + (uint64_t)(hundredths) / 100 % 10 * 256 \
-        + (uint64_t)(hundredths) / 10 % 10 * 16 + (uint64_t)(hundredths) % 10))
+    ((uint16_t)((uint64_t)(hundredths) > 9999 ? 0xFFFF : KEXBARDI_BCD_DIGITS(hundredths)))
+#define KEXBARDI_BCD_OF(value) \
+    ((uint16_t)((double)(value) >= 0 && (double)(value) < 99.995 \
+        ? KEXBARDI_BCD_DIGITS((double)(value) * 100 + 0.5) : 0xFFFF))
 
-/* And back: KEXBARDI_HUNDREDTHS(0x0200) is 200. */
+/* The digits alone, of 0 to 9999 hundredths: for the two above. */
+#define KEXBARDI_BCD_DIGITS(hundredths) \
+    ((uint64_t)(hundredths) / 1000 * 4096 + (uint64_t)(hundredths) / 100 % 10 * 256 \
+        + (uint64_t)(hundredths) / 10 % 10 * 16 + (uint64_t)(hundredths) % 10)
+
+/* And back, of a word whose digits are decimal: KEXBARDI_HUNDREDTHS(0x0200) is 200. */
 #define KEXBARDI_HUNDREDTHS(word) \
-    ((uint16_t)(word) / 4096 * 1000 + (uint16_t)(word) / 256 % 16 * 100 + (uint16_t)(word) / 16 % 16 * 10 + (uint16_t)(word) % 16)
+    ((uint16_t)(word) / 4096 * 1000 + (uint16_t)(word) / 256 % 16 * 100 \
+        + (uint16_t)(word) / 16 % 16 * 10 + (uint16_t)(word) % 16)
 
 #define KEXBARDI_RESET_OFF 0x9999 /* the reset time that stands for no reset action (A7) */
 
@@ -98,7 +111,7 @@ enum kexbardi_mode_1 {
     KEXBARDI_M1_AUTOMATIC = 0x0002,
     KEXBARDI_M1_CASCADE = 0x0004,
     KEXBARDI_M1_BUMPLESS_II = 0x0008,      /* off: Bumpless I, the setpoint becomes the PV at an entry to Automatic */
-    KEXBARDI_M1_REVERSE = 0x0010,          /* the output rises with the PV; off: it falls as the PV rises */
+    KEXBARDI_M1_REVERSE = 0x0010,          /* the output rises with the PV; off: it falls as the PV rises (M1) */
     KEXBARDI_M1_VELOCITY = 0x0020,         /* velocity form; off: position form */
     KEXBARDI_M1_ROOT = 0x0040,             /* square root of the PV */
     KEXBARDI_M1_SQUARED = 0x0080,          /* error squared */
@@ -108,6 +121,7 @@ enum kexbardi_mode_1 {
     KEXBARDI_M1_DEVIATION_ALARMS = 0x2000, /* yellow, red */
     KEXBARDI_M1_RATE_ALARM = 0x4000        /* change of the PV */
 };
+#define KEXBARDI_M1_REQUESTS 0x0007        /* the three requests */
 
 /* Mode 2, word 1 (M2). Bit 8 is ignored; all others have to be off (refusal 8). */
 enum kexbardi_mode_2 {
@@ -116,10 +130,13 @@ enum kexbardi_mode_2 {
     KEXBARDI_M2_SIXTEEN_BITS = 0x0200      /* prevails over FIFTEEN_BITS; with neither, 12 bits */
 };
 
-/* The full scales of the three formats (M3). */
+/* The full scales of the three formats, and that of a mode 2 word (M3). */
 #define KEXBARDI_FULL_12 4095
 #define KEXBARDI_FULL_15 32767
 #define KEXBARDI_FULL_16 65535
+#define KEXBARDI_FULL_SCALE(word) \
+    ((word) & KEXBARDI_M2_SIXTEEN_BITS ? KEXBARDI_FULL_16 \
+        : (word) & KEXBARDI_M2_FIFTEEN_BITS ? KEXBARDI_FULL_15 : KEXBARDI_FULL_12)
 
 /* Status, word 6 (section 7 of MANUAL.md). */
 enum kexbardi_status {
@@ -136,6 +153,7 @@ enum kexbardi_status {
     KEXBARDI_S_ALARM_SETTINGS = 0x0400,    /* alarm limits that contradict each other (B6) */
     KEXBARDI_S_AT_LIMIT = 0x0800           /* the output is at a limit and the PV is not at the setpoint (B7) */
 };
+#define KEXBARDI_S_ALARMS 0x03F8           /* the seven alarms, from low-low to rate */
 
 /* ---- the records (H1 to H5) */
 
@@ -152,7 +170,7 @@ enum kexbardi_status {
  *   last PV       0                         65,535
  *   PV before it  0                         65,535
  *   last error    -65,535                   65,535
- *   velocity      0                         1                       the form last used: 0 position, 1 velocity
+ *   velocity      0                         1                       the form of mode 1 then: 0 position, 1 velocity
  *   sampled       0                         1                       1 once a sample of the loop was accepted
  *
  * A record with a number outside these is refused with 5, and all eight numbers stay as they are. */
@@ -177,8 +195,8 @@ enum kexbardi_refusal {
     KEXBARDI_KIND = 2,     /* file: a record of no kind, or of one that is unknown */
     KEXBARDI_LENGTH = 3,   /* file: a record whose length its kind does not have */
     KEXBARDI_LOOP = 4,     /* no loop of that number: loops are 1 to 16 */
-    KEXBARDI_MEMORY = 5,   /* the lent memory does not have its length, or a number of the loop's record is out of range;
-                              of kexbardi_print: the room is too short */
+    KEXBARDI_MEMORY = 5,   /* the lent memory does not have its length, or a number of the loop's record is out
+                              of range; of kexbardi_print: the room is too short */
     KEXBARDI_STORE = 6,    /* store: the address is above 1,023, or that word is not the caller's to store */
     KEXBARDI_DIGIT = 7,    /* sample: period, gain, reset or rate has a digit above 9 */
     KEXBARDI_SETTING = 8,  /* sample: a setting that is not allowed (N8 of MANUAL.md lists them) */
@@ -200,19 +218,25 @@ uint8_t kexbardi_reset(uint16_t *words, size_t words_length, int64_t *records, s
  * Answers 5 where words_length is not 1,024 or records_length is not 128; 6 where the address is above 1,023
  * or one that is not the caller's to store (offset 3, 4, 6 or 29 of a loop); else 0, and that one word has the
  * value. */
-uint8_t kexbardi_store(uint16_t *words, size_t words_length, int64_t *records, size_t records_length, uint64_t address,
-    uint16_t value);
+uint8_t kexbardi_store(uint16_t *words, size_t words_length, int64_t *records, size_t records_length,
+    uint64_t address, uint16_t value);
 
 /* What kexbardi_sample writes to its line: what the program `drill` prints of a sample. */
-enum kexbardi_line { KEXBARDI_LINE_SETPOINT = 0, KEXBARDI_LINE_PV = 1, KEXBARDI_LINE_OUTPUT = 2, KEXBARDI_LINE_STATUS = 3 };
+#define KEXBARDI_LINE_WORDS 4
+enum kexbardi_line {
+    KEXBARDI_LINE_SETPOINT = 0,
+    KEXBARDI_LINE_PV = 1,
+    KEXBARDI_LINE_OUTPUT = 2,
+    KEXBARDI_LINE_STATUS = 3
+};
 
 /* One sample of a loop, 1 to 16, with a raw PV (A1 to A12).
  * Answers the first of these that holds: 5 for words_length not 1,024 or records_length not 128; 4 for no
  * such loop; 5 where a number of the loop's record is out of range; 7, 8, 9. Else 0: words 0, 2, 3, 5 and 6
- * of the loop, word 4 too in position form outside Manual, its record and the line are written, and nothing else. Other loops' records are not looked
- * at, and may hold anything. */
-uint8_t kexbardi_sample(uint16_t *words, size_t words_length, int64_t *records, size_t records_length, uint64_t loop, uint64_t raw,
-    uint16_t line[4]);
+ * of the loop, word 4 too in position form outside Manual, its record and the line are written, and nothing
+ * else. Other loops' records are not looked at, and may hold anything. */
+uint8_t kexbardi_sample(uint16_t *words, size_t words_length, int64_t *records, size_t records_length,
+    uint64_t loop, uint64_t raw, uint16_t line[4]);
 
 /* The numbers of a loop's record copied out as they stand, if all are in range: the way to test a desk that
  * was loaded.

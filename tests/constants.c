@@ -106,6 +106,10 @@ static void versions(void) {
     equals("KEXBARDI_VERSION", KEXBARDI_VERSION, kexbardi_version());
     equals("KEXBARDI_OLDEST_SAVE", KEXBARDI_OLDEST_SAVE, 10000);
     check("the oldest save is not above the version", KEXBARDI_OLDEST_SAVE <= KEXBARDI_VERSION);
+    equals("the major number of 3.0.0", KEXBARDI_MAJOR(30000), 3);
+    equals("the major number of 3.99.99", KEXBARDI_MAJOR(39999), 3);
+    equals("the major number of a sum", KEXBARDI_MAJOR(20000 + 10000), 3);
+    equals("the major number in a quotient", 100 / KEXBARDI_MAJOR(30000), 33);
 }
 
 /* ---- the desk */
@@ -511,6 +515,49 @@ static void line_indices(void) {
     equals("KEXBARDI_LINE_STATUS", line[KEXBARDI_LINE_STATUS], 0x0004);
 }
 
+/* Q3: a sample writes so many words to its line, and none behind them. */
+static void line_words(void) {
+    uint16_t room[8];
+    begin_loop_a("KEXBARDI_LINE_WORDS");
+    for (int n = 0; n < 8; n++) room[n] = 0xa5a5;
+    equals("sample", kexbardi_sample(words, 1024, records, 128, 1, 1000, room), 0);
+    equals("the last word of the line", room[KEXBARDI_LINE_WORDS - 1], 0x0002);
+    equals("the word behind it", room[KEXBARDI_LINE_WORDS], 0xa5a5);
+}
+
+/* W1, N6: from here on every word may be stored; the last loop's word 29 is three words before. */
+static void free_words(void) {
+    begin("KEXBARDI_FIRST_FREE");
+    equals("word 29 of loop 16", store(KEXBARDI_FIRST_FREE - 3, 1), 6);
+    equals("word 3 of loop 16", store(KEXBARDI_FIRST_FREE - 29, 1), 6);
+    put(KEXBARDI_FIRST_FREE, 1);
+    put(KEXBARDI_FIRST_FREE + 3, 1);
+}
+
+/* M3: the full scale of a mode 2 word; the argument may be an expression, and the macro stand in one. */
+static void full_scales(void) {
+    test = "KEXBARDI_FULL_SCALE";
+    equals("12 bits", KEXBARDI_FULL_SCALE(0x0110), 4095);
+    equals("15 bits", KEXBARDI_FULL_SCALE(0x0012), 32767);
+    equals("16 bits", KEXBARDI_FULL_SCALE(0x0200), 65535);
+    equals("both bits", KEXBARDI_FULL_SCALE(0x0202), 65535);
+    equals("of two bits", KEXBARDI_FULL_SCALE(0x0010 | 0x0100), 4095);
+    equals("in a difference", KEXBARDI_FULL_SCALE(0x0200) - 1, 65534);
+}
+
+/* A2: the requests are what a sample clears of word 0. B2 to B5: the seven alarms. */
+static void masks(void) {
+    begin_loop_a("KEXBARDI_M1_REQUESTS");
+    put(0, 0x410f);
+    equals("sample", sample(1, 1000), 0);
+    equals("word 0", words[0], 0x4108);
+    equals("what is left of it", 0x410f & ~KEXBARDI_M1_REQUESTS, 0x4108);
+    test = "KEXBARDI_S_ALARMS";
+    equals("low-low to rate", KEXBARDI_S_ALARMS, 0x03f8);
+    equals("each of them", KEXBARDI_S_ALARMS,
+        KEXBARDI_S_LOW_LOW | KEXBARDI_S_LOW | KEXBARDI_S_HIGH | KEXBARDI_S_HIGH_HIGH | KEXBARDI_S_YELLOW | KEXBARDI_S_RED | KEXBARDI_S_RATE);
+}
+
 /* H1: eight different numbers. In units: 2,180 x 262,144 and 2,980 x 262,144. */
 static void field_indices(void) {
     begin_cascade("the record");
@@ -576,6 +623,41 @@ static void bcd(void) {
     equals("in an enumeration", two, 0x0200);
     equals("in a table", table_of_words[1], 0x1234);
     equals("a word", (int64_t)sizeof KEXBARDI_BCD(200), 2);
+}
+
+/* W3: the word of a value in hand, rounded to hundredths; 0xFFFF for what four digits cannot hold. */
+static void bcd_of_a_value(void) {
+    const double base = 10, none = 0.0;
+    static const uint16_t gain = KEXBARDI_BCD_OF(2.00);
+    test = "KEXBARDI_BCD_OF";
+    equals("2.00", gain, 0x0200);
+    equals("an integer", KEXBARDI_BCD_OF(2), 0x0200);
+    equals("0", KEXBARDI_BCD_OF(0), 0x0000);
+    equals("0.5", KEXBARDI_BCD_OF(0.5), 0x0050);
+    equals("0.294", KEXBARDI_BCD_OF(0.294), 0x0029);
+    equals("0.2951", KEXBARDI_BCD_OF(0.2951), 0x0030);
+    equals("0.29", KEXBARDI_BCD_OF(0.29), 0x0029); /* 100 times it is a little less than 29 */
+    equals("99.99", KEXBARDI_BCD_OF(99.99), 0x9999);
+    equals("99.9945", KEXBARDI_BCD_OF(99.9945), 0x9999);
+    equals("99.9955", KEXBARDI_BCD_OF(99.9955), 0xffff);
+    equals("100.5", KEXBARDI_BCD_OF(100.5), 0xffff);
+    equals("-0.004", KEXBARDI_BCD_OF(-0.004), 0xffff);
+    equals("-1", KEXBARDI_BCD_OF(-1), 0xffff);
+    equals("1e30", KEXBARDI_BCD_OF(base * 1e29), 0xffff);
+    equals("no number", KEXBARDI_BCD_OF(none / none), 0xffff);
+    equals("a sum", KEXBARDI_BCD_OF(base + 2.34), 0x1234);
+    equals("a choice", KEXBARDI_BCD_OF(base > 9 ? 12.34 : 99.99), 0x1234);
+    equals("a word", (int64_t)sizeof KEXBARDI_BCD_OF(2.00), 2);
+}
+
+/* The digits alone, which the two macros share. */
+static void bcd_digits(void) {
+    const unsigned base = 1000;
+    test = "KEXBARDI_BCD_DIGITS";
+    equals("1234", (int64_t)KEXBARDI_BCD_DIGITS(1234), 0x1234);
+    equals("a sum", (int64_t)KEXBARDI_BCD_DIGITS(base + 234), 0x1234);
+    equals("a choice", (int64_t)KEXBARDI_BCD_DIGITS(base > 999 ? 1234 : 9999), 0x1234);
+    equals("in a product", (int64_t)(2 * KEXBARDI_BCD_DIGITS(1234)), 0x2468);
 }
 
 /* The header: what is above 9999 or negative becomes 0xFFFF, however wide it is. */
@@ -794,13 +876,19 @@ int main(void) {
     velocity();
     reset_minutes();
     formats();
+    full_scales();
+    masks();
     line_indices();
+    line_words();
+    free_words();
     field_indices();
     unsampled();
     units();
     half_a_count();
     reset_off();
     bcd();
+    bcd_of_a_value();
+    bcd_digits();
     bcd_of_no_word();
     bcd_in_expressions();
     hundredths_of_other_words();

@@ -19,5 +19,5 @@ pub struct Carried {
     pub state: State,
     pub drive: Drive,
     pub past: Past,
-    pub sampled: bool, // whether a sample was ever accepted
+    pub sampled: bool, // a sample of the loop was accepted
 }

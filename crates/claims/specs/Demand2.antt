@@ -1,6 +1,6 @@
--- Demand 2. A sample is accepted exactly where no refusal holds (O3). Then every word and every number is as A1 to A12 define it: the loop's six words
--- and its record change, and nothing else (Q3). What comes of a sample is a matter of the loop's 32 words, its record, the raw PV and, in Cascade,
--- the word pointed to (Q9): loop 9 set up like loop 1 answers alike. And a record in range never leaves its ranges, whatever is called (E8).
+-- Demand 2. A sample is accepted exactly where no refusal holds (O3). Then every word and every number is as A1 to A12 define it: the loop's words
+-- and its record change, and nothing else (Q3). What comes of a sample is a matter of the raw PV, the loop's 32 words, its record and the word that
+-- Cascade follows (Q9): loop 9 set up like loop 1 answers alike. And a record in range never leaves its ranges, whatever is called (E8).
 use Prim.Native.Nat.{ℕ, _+_, _≤_}
 use mathlib.Core.Path.{_≡_}
 use mathlib.Core.Bool.{true, false}

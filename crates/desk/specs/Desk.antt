@@ -96,7 +96,7 @@ sampleCases d k raw = memoryCases d ++ (loopCases (d .numbers) k ++ readingCases
 abbrev pub stepAt : Desk → ℕ → ℕ → Stepped
 stepAt d k raw = stepOf (readingAt d k) (recordAt (d .numbers) k) raw
 
--- Q3: six words of the loop and its record change, and nothing else
+-- Q3: the loop's words (A12) and its record are written, and nothing else
 unfoldable pub sampleDone : Desk → ℕ → ℕ → Desk
 sampleDone d k raw =
     let s = stepAt d k raw in

@@ -2,8 +2,11 @@
 use crate::argument::START;
 use crate::output::print_lines;
 use libc::STDIN_FILENO;
-ghost use Prim.Native.Nat.{ℕ, _≤_, _<_};
-ghost use lib.ListN.{length, getD};
+ghost use Prim.Native.Nat.{_≤_};
+ghost use mathlib.Core.Path.{_≡_};
+ghost use mathlib.Core.List.{map};
+ghost use lib.ListN.{length};
+ghost use Rattle.drill.specs.Names.{shownByte};
 
 const DELETE: u8 = 127; // the control byte that is not below a space
 
@@ -46,7 +49,7 @@ fn tell(named: &mut [u8]) {
 
 // A name may hold any byte but 0, and what is told is one line all the same.
 fn hide_controls(text: &mut [u8])
-    ensures { λ _. ⌜ ((k : ℕ) → k < length (now (text .exit)) → 32 ≤ getD (now (text .exit)) k 0) ⌝ }
+    ensures { λ _. ⌜ now (text .exit) ≡ map shownByte (now (text .entry)) ⌝ }
 {
     let mut i = 0;
     while i < text.len() {
@@ -56,7 +59,7 @@ fn hide_controls(text: &mut [u8])
 }
 
 fn shown(b: u8) -> u8
-    ensures { λ r. ⌜ 32 ≤ r ⌝ }
+    ensures { λ r. ⌜ r ≡ shownByte b ⌝ }
 {
     if b < b' ' {
         return b'?';

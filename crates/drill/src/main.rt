@@ -17,7 +17,7 @@ fn main() {
     } else {
         streams::write_whole(
             STDERR_FILENO,
-            b"drill: more than one file is named, and none was read\n",
+            b"drill: more than one argument, and nothing was read\n",
         );
     }
 }

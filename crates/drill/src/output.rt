@@ -31,6 +31,6 @@ pub(crate) fn print_help() {
         Without FILE it reads standard input. A file has at most 65,536 bytes; a longer one prints: too long\n\
         A record's line begins with its number: set ADDRESS VALUE, loop K sp S pv P out O word STATUS, or refused NUMBER\n\
         The last line counts the records and those that were refused; MANUAL.md tells what the numbers mean\n\
-        What cannot be read or written is told on standard error, and that line is the only sign: there is no exit status\n",
+        What cannot be read or written is told on standard error, and that line is the only sign: the exit status is always 0\n",
     );
 }

@@ -18,7 +18,7 @@ pvOf root scale raw = cond root (rootOf (raw * scale)) raw
 
 -- A2 is `modeAfter` of the table: the reading has the mode that it gives
 
--- A3: word 2; in Cascade, the word at the pointer
+-- A3: the word pointed to in Cascade, else word 2
 unfoldable pub setpointOf : Reading → ℕ
 setpointOf r = cond (isCascade (r .mode)) (r .remote) (r .settings .stored .setpoint)
 

@@ -15,7 +15,7 @@ use Rattle.engine.specs.Driving.{heldOf}
 use Rattle.plain.specs.Exact.{inCounts, exactOutput, exactBias}
 pub mod Laws
 
--- E3: mode and form (its state), the last PV, the bias B, the number n, and the last exact output
+-- E3: mode and form (its state), the last PV, the bias B and the number n; and the last exact output (E5)
 pub record Plain : Type 0 where
   pub state : State
   pub last : ℕ

@@ -1,4 +1,5 @@
 // Writing a text whole.
+ghost use mathlib.Core.Path.{_≡_};
 ghost use lib.ListN.{length};
 ghost use Rattle.streams.specs.Steps.{Within};
 use crate::TRIES;
@@ -21,7 +22,10 @@ fn write_some(fd: i32, buf: &[u8]) -> Step
 
 // Writes all of `buf`. A write that was only interrupted or took no byte is tried again; where the
 // tries are used up, that counts as a failure. Some of `buf` may then have been written.
-pub fn write_whole(fd: i32, buf: &[u8]) -> Put {
+// Of a text that is not empty the answer is the system's, and no contract can say more of it.
+pub fn write_whole(fd: i32, buf: &[u8]) -> Put
+    ensures { λ r. ⌜ (length (now (buf .entry)) ≡ 0 → r ≡ Put.Whole) ⌝ }
+{
     let mut done = 0;
     let mut tries = TRIES;
     while done < buf.len() {

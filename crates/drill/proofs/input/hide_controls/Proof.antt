@@ -1,30 +1,32 @@
--- `drill::input::hide_controls` meets its contract. The invariant: the length stays, and no byte passed is below 32.
--- The measure is what is left of the length.
-use Prim.Native.Nat.{ℕ, _+_, _-_, _≤_, _<_}
+-- `drill::input::hide_controls` meets its contract. The invariant: the bytes passed, and those left as they are to be shown, are the
+-- whole text shown. The measure is what is left of the length.
+use Prim.Native.Nat.{ℕ, suc, _+_, _-_, _≤_, _<_}
 use native.Mathlib.Omega.{arith}
-use mathlib.Core.Path.{_≡_, refl}
-use mathlib.Core.List.{List}
+use native.Mathlib.Numerals.{add-one}
+use mathlib.Core.Path.{_≡_, refl, _∙_}
+use mathlib.Core.List.{List, _++_, map, append-nil}
 use borrow.Author.Needs.{needs}
-use borrow.Author.Count.{below-more}
-use lib.ListN.{length, getD, set, length-set}
-use lib.Seq.{getD-set-same, getD-set-other}
+use lib.ListN.{length, set, take, drop, getD, length-set, drop-of-length-le}
+use lib.Seq.{take-all, take-suc-set, drop-set-lt, drop-cons, append-snoc}
+use Rattle.drill.specs.Names.{shownByte}
 use Rattle.drill.proofs.input.hide_controls.Statement.{statement}
 use Rattle.drill.proofs.input.hide_controls.Tie as tie
 
 abbrev Inv-loop : tie.InvT-loop
 Inv-loop text₀ i₀ text i =
-    (length text ≡ length text₀) × ((i ≤ length text) × ((k : ℕ) → k < i → 32 ≤ getD text k 0))
+    (length text ≡ length text₀) × (take i text ++ map shownByte (drop i text) ≡ map shownByte text₀)
 
 abbrev μ-loop : tie.MeasureT-loop
 μ-loop text₀ i₀ text i = length text₀ - i
 
--- a byte that is shown is put behind those that are
-one-more : (s : List ℕ) (i : ℕ) {b : ℕ} → i < length s → ((k : ℕ) → k < i → 32 ≤ getD s k 0) → 32 ≤ b → (k : ℕ) → k < i + 1 → 32 ≤ getD (set s i b) k 0
-one-more s i {b} h all here =
-    below-more (λ (k : ℕ). 32 ≤ getD (set s i b) k 0) i (λ k l. rw (getD-set-other s i k b 0 (λ e. omega arith)) (all k l)) (rw (getD-set-same s i b 0 h) here)
+-- a byte that is put as it is to be shown leaves that as it was
+one-more : (s : List ℕ) (i : ℕ) {b : ℕ} → b ≡ shownByte (getD s i 0) → i < length s
+    → take (i + 1) (set s i b) ++ map shownByte (drop (i + 1) (set s i b)) ≡ take i s ++ map shownByte (drop i s)
+one-more s i {b} e h =
+    rw (add-one, take-suc-set, drop-set-lt (suc i) s i b (omega arith), drop-cons s i 0, append-snoc, e)
 
 loop-holds : tie.Need-loop-holds Inv-loop μ-loop
-loop-holds c = (refl, (omega arith, λ k h. absurd (omega arith)))
+loop-holds c = (refl, refl)
 
 slice-read-shown : tie.Need-slice-read-shown Inv-loop μ-loop
 slice-read-shown c = search needs
@@ -44,13 +46,16 @@ loop-less c = omega arith
 loop-again : tie.Need-loop-again Inv-loop μ-loop
 loop-again c =
     let l = c .before .before .before .loop in
-    (simp length-set (l .inv .0), (simp length-set (omega arith), one-more (l .text) (l .i) (search needs) (l .inv .1 .1) (c .shown .ensures)))
+    (simp length-set (l .inv .0), one-more (l .text) (l .i) (c .shown .ensures) (search needs) ∙ l .inv .1)
 
 same-length : tie.Need-same-length Inv-loop μ-loop
 same-length c = search needs
 
 returns : tie.Need-returns Inv-loop μ-loop
-returns c = λ k h. c .before .loop .inv .1 .1 k (omega arith)
+returns c =
+    let l = c .before .loop in
+    let h : length (l .text) ≤ l .i = omega arith in
+    rw (take-all, drop-of-length-le, append-nil) at (l .inv .1)
 
 pub hide-controls-spec : {M : Type 1} → statement M
 hide-controls-spec =

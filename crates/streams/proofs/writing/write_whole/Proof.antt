@@ -1,4 +1,4 @@
--- `streams::writing::write_whole` ends. The invariant: what was written lies within the text.
+-- `streams::writing::write_whole` ends, and an empty text is written whole. The invariant: what was written lies within the text.
 -- The measure: the bytes that are left, and the tries that are left.
 use Prim.Native.Nat.{_+_, _-_, _≤_}
 use native.Mathlib.Omega.{arith}
@@ -55,7 +55,7 @@ enum-told : tie.Need-enum-told Inv-loop μ-loop
 enum-told c = search needs
 
 returns : tie.Need-returns Inv-loop μ-loop
-returns c = search needs
+returns c empty = absurd (omega arith)
 
 sub-tries : tie.Need-sub-tries Inv-loop μ-loop
 sub-tries c = search needs
@@ -70,7 +70,7 @@ enum-told-2 : tie.Need-enum-told-2 Inv-loop μ-loop
 enum-told-2 c = search needs
 
 returns-2 : tie.Need-returns-2 Inv-loop μ-loop
-returns-2 c = search needs
+returns-2 c empty = absurd (omega arith)
 
 sub-tries-2 : tie.Need-sub-tries-2 Inv-loop μ-loop
 sub-tries-2 c = search needs
@@ -85,7 +85,7 @@ enum-told-3 : tie.Need-enum-told-3 Inv-loop μ-loop
 enum-told-3 c = search needs
 
 returns-3 : tie.Need-returns-3 Inv-loop μ-loop
-returns-3 c = search needs
+returns-3 c empty = absurd (omega arith)
 
 returns-4 : tie.Need-returns-4 Inv-loop μ-loop
 returns-4 c = search needs

@@ -1,0 +1,2 @@
+-- What is told of a file's name.
+pub mod Names
