@@ -2,14 +2,13 @@
 //
 // A failure is told as `drill: NAME: REASON`, so the name is read in behind the bytes that begin
 // that line, and no byte is copied.
+use crate::input::START;
 use crate::input::of_file;
 use crate::output::print_help;
 use libc::PATH_MAX;
 ghost use Prim.Native.Nat.{_≤_};
 ghost use lib.ListN.{length};
 ghost use Rattle.io.specs.Counts.{Counts};
-
-pub(crate) const START: usize = 7; // bytes of `drill: `, where the name begins
 
 const ROOM: usize = START + PATH_MAX - 1; // a path's last byte is a 0, which the name has not
 

@@ -1,5 +1,4 @@
 // Where a drill file is read from.
-use crate::argument::START;
 use crate::output::print_lines;
 use libc::STDIN_FILENO;
 ghost use Prim.Native.Nat.{_≤_};
@@ -7,6 +6,8 @@ ghost use mathlib.Core.Path.{_≡_};
 ghost use mathlib.Core.List.{map};
 ghost use lib.ListN.{length};
 ghost use Rattle.drill.specs.Names.{shownByte};
+
+pub(crate) const START: usize = 7; // bytes of `drill: `, behind which a file's name begins
 
 const DELETE: u8 = 127; // the control byte that is not below a space
 
