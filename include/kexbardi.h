@@ -83,10 +83,10 @@ enum kexbardi_word {
 /* BCD (W3): period, gain, reset and rate are four decimal digits, one in each four bits, and count
  * hundredths. 2.00 is 200 hundredths and the word 0x0200; the plain number 200 is 0x00C8, whose C is no digit,
  * and a sample with it is refused with 7.
- * KEXBARDI_BCD takes whole hundredths: KEXBARDI_BCD(200) is 0x0200. KEXBARDI_BCD_OF takes the value itself, as a
- * double or an integer, and rounds it: KEXBARDI_BCD_OF(2.00) is 0x0200. What four digits cannot hold (negative,
- * above 99.99, no number) becomes 0xFFFF, which is refused with 7 as well. The arguments are evaluated more
- * than once. */
+ * KEXBARDI_BCD takes whole hundredths, an integer: KEXBARDI_BCD(200) is 0x0200. KEXBARDI_BCD_OF takes the value
+ * itself, as a double or an integer, and rounds it: KEXBARDI_BCD_OF(2.00) is 0x0200. What four digits cannot
+ * hold (negative, above 99.99, no number) becomes 0xFFFF, which is refused with 7 as well. The arguments are
+ * evaluated more than once. */
 #define KEXBARDI_BCD(hundredths) \
     ((uint16_t)((uint64_t)(hundredths) > 9999 ? 0xFFFF : KEXBARDI_BCD_DIGITS(hundredths)))
 #define KEXBARDI_BCD_OF(value) \

@@ -1,4 +1,4 @@
-// What every call tests first: the lengths of the lent memory, and the loop's number.
+// What every call tests first: the lengths of the lent memory (O1), and the loop's number (N4).
 use carried::NUMBERS;
 use table::LOOPS;
 use table::WORDS;
@@ -13,7 +13,7 @@ pub fn fitting(words: &[u16], numbers: &[i64]) -> bool
     (words.len() == WORDS) & (numbers.len() == NUMBERS)
 }
 
-// There is no loop of that number.
+// N4: there is no loop of that number.
 pub(crate) fn no_loop(number: u64) -> bool
     ensures { λ r. ⌜ r ≡ noLoop number ⌝ }
 {

@@ -1,4 +1,4 @@
-// Words and records as at reset.
+// Q1, H3: words and records as at reset.
 use crate::memory::fitting;
 use refusals::Answer;
 use refusals::Refusal;

@@ -1,4 +1,4 @@
-// A sample of one loop: refused, or carried out and written back.
+// Q3: a sample of one loop, refused in O3's order, or carried out and written back.
 use crate::memory::fitting;
 use crate::memory::no_loop;
 use carried::Carried;
@@ -21,7 +21,7 @@ ghost use Rattle.carried.specs.Layout.{fieldCount, slotOf, recordAt};
 ghost use Rattle.carried.specs.Ranged.{Ranged};
 ghost use Rattle.desk.specs.Desk.{lent, judgedAnswer, judgedLeft, sampleAnswer, sampleLeft};
 
-// A sample of a loop that there is, with its record, which is in range.
+// Past N4 and N5: a sample of a loop that there is, with its record, which is in range.
 fn carry_out(
     words: &mut [u16],
     numbers: &mut [i64],
@@ -51,7 +51,7 @@ fn carry_out(
     }
 }
 
-// A sample of loop `number` with the raw PV `raw`.
+// Q3: a sample of loop `number` with the raw PV `raw`.
 pub fn sample(words: &mut [u16], numbers: &mut [i64], number: u64, raw: u64) -> Answer
     ensures answer { λ r. ⌜ r ≡ sampleAnswer (lent (now (words .entry)) (now (numbers .entry))) number raw ⌝ }
     ensures left { λ _. ⌜ lent (now (words .exit)) (now (numbers .exit)) ≡ sampleLeft (lent (now (words .entry)) (now (numbers .entry))) number raw ⌝ }

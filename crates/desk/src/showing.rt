@@ -1,4 +1,4 @@
-// What is shown of a desk: a loop's line, and the numbers of its record.
+// What is shown of a desk: a loop's line (Q3), and the numbers of its record (Q4).
 use crate::memory::no_loop;
 use carried::FIELDS;
 use carried::NUMBERS;
@@ -17,7 +17,7 @@ use table::word_at;
 ghost use mathlib.Core.Path.{_≡_};
 ghost use Rattle.desk.specs.Desk.{lineOf, fieldsAnswer, fieldsLeft};
 
-// Setpoint, PV, output and status of a loop.
+// Q3: setpoint, PV, output and status of a loop.
 pub fn line(words: &[u16], number: u8) -> [u16; 4]
     ensures { λ r. ⌜ r ≡ lineOf (now (words .entry)) number ⌝ }
 {
@@ -30,7 +30,7 @@ pub fn line(words: &[u16], number: u8) -> [u16; 4]
     ]
 }
 
-// The numbers of a loop's record copied out, if they are in range.
+// Q4: the numbers of a loop's record copied out, if they are in range.
 pub fn fields(numbers: &[i64], number: u64, copied: &mut [i64; FIELDS]) -> Answer
     ensures answer { λ r. ⌜ r ≡ fieldsAnswer (now (numbers .entry)) number ⌝ }
     ensures left { λ _. ⌜ now (copied .exit) ≡ fieldsLeft (now (numbers .entry)) number (now (copied .entry)) ⌝ }

@@ -1,4 +1,4 @@
-// A word stored into the lent table.
+// Q2: a word stored into the lent table.
 use crate::memory::fitting;
 use refusals::Answer;
 use refusals::Refusal;
@@ -15,7 +15,7 @@ const FIRST_FREE: u64 = 512; // words from here on belong to no loop
 
 const LAST_ADDRESS: u64 = WORDS as u64 - 1;
 
-// The words of a loop that no store reaches: PV, bias and status, which samples write, and word 29.
+// N6: the words of a loop that no store reaches: PV, bias and status, which samples write, and word 29.
 fn engine_word(address: u64) -> bool
     ensures { λ r. ⌜ r ≡ engineWord address ⌝ }
 {
@@ -24,7 +24,7 @@ fn engine_word(address: u64) -> bool
         & ((offset == PV) | (offset == BIAS) | (offset == STATUS) | (offset == PROFILE_FAULT))
 }
 
-// No record is looked at; the numbers are lent whole all the same, as to every call.
+// Q2. No record is looked at; the numbers are lent whole all the same, as to every call.
 pub fn store(words: &mut [u16], numbers: &mut [i64], address: u64, value: u16) -> Answer
     ensures answer { λ r. ⌜ r ≡ storeAnswer (lent (now (words .entry)) (now (numbers .entry))) address ⌝ }
     ensures left { λ _. ⌜ lent (now (words .exit)) (now (numbers .exit)) ≡ storeLeft (lent (now (words .entry)) (now (numbers .entry))) address value ⌝ }

@@ -1,4 +1,4 @@
-// The program `drill`: carries out a drill file and prints what `session::drill` writes of it.
+// The program `drill` (L12): carries out a drill file and prints what `session::drill` writes of it.
 //
 // The language has no exit status. So what cannot be read or written is told in one line on standard
 // error, and after a read that failed nothing is printed.

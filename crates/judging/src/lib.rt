@@ -1,4 +1,4 @@
-// Whether a sample is accepted, by what it read of the words: refusals 7, 8 and 9.
+// Whether a sample is accepted, by what it read of the words: N7, N8 and N9.
 use refusals::Answer;
 use refusals::Refusal;
 use table::Mode1;
@@ -18,7 +18,7 @@ const MOST_HYSTERESIS: u16 = 200;
 
 const LAST_ADDRESS: u16 = WORDS as u16 - 1;
 
-// A setting of the mode bits, velocity with Bumpless II, or the hysteresis of alarms that are on.
+// N8: a setting of the mode bits, velocity with Bumpless II, or the hysteresis of alarms that are on.
 fn bad_modes(bits: Mode1, unused: bool, hysteresis: u16) -> bool
     ensures { λ r. ⌜ r ≡ badModes bits unused hysteresis ⌝ }
 {
@@ -41,21 +41,21 @@ fn bad_limits(limits: OutputLimits, scale: u16) -> bool
     (limits.high < limits.low) | (scale < limits.high)
 }
 
-// The setpoint or, in Cascade, the pointer and the word that it names.
+// N8: the setpoint or, in Cascade, the pointer and the word that it names.
 fn bad_setpoint(cascade: bool, scale: u16, setpoint: u16, pointer: u16, remote: u16) -> bool
     ensures { λ r. ⌜ r ≡ badSetpoint cascade scale setpoint pointer remote ⌝ }
 {
     (!cascade & (scale < setpoint)) | (cascade & ((LAST_ADDRESS < pointer) | (scale < remote)))
 }
 
-// The raw PV, of any size, above full scale.
+// N9: the raw PV, of any size, above full scale.
 fn above(scale: u16, raw: u64) -> bool
     ensures { λ r. ⌜ r ≡ ltb scale raw ⌝ }
 {
     (scale as u64) < raw
 }
 
-// The first refusal whose condition holds, in the table's order.
+// O4: the first refusal whose condition holds, in O3's order.
 pub fn judge(reading: Reading, raw: u64) -> Answer
     ensures { λ r. ⌜ r ≡ firstOf (readingCases reading raw) ⌝ }
 {

@@ -1,4 +1,4 @@
-// The C interface on a desk: reset, store, sample, and a record's numbers read out.
+// The C interface on a desk (Q1 to Q4, Q10): reset, store, sample, and a record's numbers read out.
 // include/kexbardi.h declares it.
 //
 // Every function works on memory that the caller lends and keeps nothing between calls. It answers 0,
@@ -12,7 +12,7 @@ ghost use Rattle.refusals.specs.Refusals.{numberOf};
 ghost use Rattle.desk.specs.Desk.{lent, resetAnswer, resetLeft, storeAnswer, storeLeft, sampleAnswer, sampleLeft, lineOf, fieldsAnswer, fieldsLeft};
 ghost use Rattle.kexbardi.specs.Interface.{lineBy, lineLeft};
 
-// The version of the interface and of the layout: major, minor and patch as MMmmpp.
+// Q10: the version of functions and layout, major, minor and patch as MMmmpp: its one source (package/make).
 const VERSION: u32 = 30000;
 
 #[no_mangle]
@@ -22,7 +22,7 @@ pub extern "C" fn kexbardi_version() -> u32
     VERSION
 }
 
-// Words and records as at reset. 5.
+// Q1: words and records as at reset. 5.
 #[no_mangle]
 pub extern "C" fn kexbardi_reset(words: &mut [u16], records: &mut [i64]) -> u8
     ensures number { λ r. ⌜ r ≡ numberOf (resetAnswer (lent (now (words .entry)) (now (records .entry)))) ⌝ }
@@ -31,7 +31,7 @@ pub extern "C" fn kexbardi_reset(words: &mut [u16], records: &mut [i64]) -> u8
     number_of(desk::reset(words, records))
 }
 
-// A word stored. 5 or 6.
+// Q2: a word stored. 5 or 6.
 #[no_mangle]
 pub extern "C" fn kexbardi_store(
     words: &mut [u16],
@@ -55,7 +55,7 @@ fn show(answer: u8, line: &mut [u16; 4], words: &[u16], number: u64)
     }
 }
 
-// A sample of a loop with a raw PV. 5, 4, 7, 8 or 9; else the words and the loop's record after it, and
+// Q3: a sample of a loop with a raw PV. 5, 4, 7, 8 or 9; else the words and the loop's record after it, and
 // the line: setpoint, PV, output and status.
 #[no_mangle]
 pub extern "C" fn kexbardi_sample(
@@ -74,7 +74,7 @@ pub extern "C" fn kexbardi_sample(
     answer
 }
 
-// The numbers of a loop's record, in the order of the layout. 5 or 4.
+// Q4: the numbers of a loop's record, in the order of the layout. 5 or 4.
 #[no_mangle]
 pub extern "C" fn kexbardi_record(records: &[i64], number: u64, fields: &mut [i64; FIELDS]) -> u8
     ensures number { λ r. ⌜ r ≡ numberOf (fieldsAnswer (now (records .entry)) number) ⌝ }

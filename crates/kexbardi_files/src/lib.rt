@@ -1,4 +1,4 @@
-// The C interface on whole drill files: one carried out on a desk, or printed from reset.
+// The C interface on whole drill files (Q5, Q6): one carried out on a desk, or printed from reset.
 // include/kexbardi.h declares it. It is an object of its own in the archive, so that a program that only
 // samples links none of it.
 use refusals::Answer;
@@ -12,7 +12,7 @@ ghost use Rattle.desk.specs.Desk.{lent};
 ghost use Rattle.session.specs.Session.{endedOf, leftOf};
 ghost use Rattle.kexbardi_files.specs.Files.{ended, endedBy, answersLeft, printed, printLeft};
 
-// A file of any length carried out. 5. Else the answer to each record goes into `answers` in order, as
+// Q5: a file of any length carried out. 5. Else the answer to each record goes into `answers` in order, as
 // far as there is room, and the counts of records and of refused ones into `count` and `refused`.
 #[no_mangle]
 pub extern "C" fn kexbardi_run(
@@ -38,7 +38,7 @@ pub extern "C" fn kexbardi_run(
     }
 }
 
-// What the program `drill` prints of a file, from the start of `out`. 5 where `out` has less room than
+// Q6: what the program `drill` prints of a file, from the start of `out`. 5 where `out` has less room than
 // ten bytes for each byte of the file, and 100 (nine bytes for a file that is too long).
 #[no_mangle]
 pub extern "C" fn kexbardi_print(file: &[u8], out: &mut [u8], size: &mut usize) -> u8

@@ -1,4 +1,4 @@
-// A drill file carried out on a desk, record by record, and what the program `drill` prints of it.
+// A drill file carried out on a desk, record by record (Q5), and what the program `drill` prints of it (Q6).
 mod printing;
 mod running;
 mod turn;

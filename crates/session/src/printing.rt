@@ -1,4 +1,4 @@
-// What the program prints of its input.
+// L9 to L11: what the program prints of its input.
 use crate::turn::act;
 use crate::turn::refusals_in;
 use crate::turn::shown;
@@ -45,7 +45,7 @@ fn transcript(file: &[u8], words: &mut [u16], numbers: &mut [i64], out: &mut [u8
     put_last(out, place, count, refused)
 }
 
-// What is printed of an input that is too long, where there is room.
+// L11: what is printed of an input that is too long, where there is room.
 fn put_too_long(out: &mut [u8]) -> usize
     ensures { λ r. ⌜ Written (now (out .entry)) 0 (withRoom (length (now (out .entry))) 9 tooLong) (now (out .exit)) r ⌝ }
     ensures { λ r. ⌜ r ≤ length (now (out .entry)) ⌝ }
@@ -56,7 +56,7 @@ fn put_too_long(out: &mut [u8]) -> usize
     text::put_text(out, 0, b"too long\n")
 }
 
-// The whole printed text, from the start of `out`. Answers how many bytes it is; 0, and nothing is
+// Q6: the whole printed text, from the start of `out`. Answers how many bytes it is; 0, and nothing is
 // written, where `out` has less room than ten bytes for each byte of the input, and 100.
 pub fn drill(input: &[u8], out: &mut [u8]) -> usize
     ensures printed { λ r. ⌜ take r (now (out .exit)) ≡ printedWithin (length (now (out .entry))) (now (input .entry)) ⌝ }

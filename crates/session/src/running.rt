@@ -1,4 +1,4 @@
-// A whole file carried out, with no line printed.
+// Q5: a whole file carried out, with no line printed.
 use crate::turn::act;
 use crate::turn::refusals_in;
 use refusals::Refusal;
@@ -50,7 +50,7 @@ fn carry_all(file: &[u8], words: &mut [u16], numbers: &mut [i64], answers: &mut 
     Totals { count, refused }
 }
 
-// A file of any length. Where the memory does not have its lengths, nothing is read or written. Else
+// Q5: a file of any length. Where the memory does not have its lengths, nothing is read or written. Else
 // the answer to each record, 0 or its number of refusal, goes into `answers` in order, as far as there
 // is room.
 pub fn run(file: &[u8], words: &mut [u16], numbers: &mut [i64], answers: &mut [u8]) -> Ended

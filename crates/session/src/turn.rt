@@ -1,4 +1,4 @@
-// One record of a drill file carried out on the desk.
+// One record of a drill file carried out on the desk (O2).
 use reader::Record;
 use refusals::Answer;
 use refusals::number_of;
