@@ -1,5 +1,6 @@
-/* The engine in plain C, by the steps A1 to A11 of docs/MANUAL.md and apart from the Rattle sources: one sample, stores, a
- * drill file carried out and its lines. It keeps no state of its own. Nothing is proved of it. */
+/* The engine in plain C, by the steps A1 to A11 and the profile's rules G1 to G12 of docs/MANUAL.md and apart from the Rattle
+ * sources: one sample, a profile's forecast, stores, a drill file carried out and its lines. It keeps no state of its own.
+ * Nothing is proved of it. */
 #include "plain_engine.h"
 
 #include <string.h>
@@ -7,15 +8,31 @@
 #define WORDS 1024
 #define LOOPS 16
 #define LOOP_WORDS 32
-#define NUMBERS 128
+#define FIELDS 13
+#define NUMBERS (LOOPS * FIELDS)
 #define UNIT 262144
+#define TABLE_FIRST 512 /* the lowest and highest address of a profile's table (G2) */
+#define TABLE_LAST 992
+#define SEGMENTS 16
+#define SEGMENT_WORDS 2
+#define TABLE_WORDS (SEGMENTS * SEGMENT_WORDS)
+#define PARTS 10000 /* parts of a count, which a setpoint's fraction counts (G7) */
 #define LONGEST 65536
 
 enum mode { MANUAL, AUTOMATIC, CASCADE };
 
-/* a record's eight numbers (H1) */
+/* a record's thirteen numbers (H1) */
 struct carried {
-    int64_t mode, bias, output, last, prior, error, velocity, sampled;
+    int64_t mode, bias, output, last, prior, error, velocity, sampled, segment, hold, complete, fraction, time;
+};
+
+/* what judging has found for the steps: period, gain, reset and rate in hundredths; the table is null where there is no
+ * profile (G4) */
+struct reading {
+    int tuning[4];
+    unsigned full;
+    enum mode mode;
+    const uint16_t *table;
 };
 
 struct terms {
@@ -34,12 +51,11 @@ static int64_t nearest(int64_t x, int64_t by) { return x < 0 ? -((-2 * x + by) /
 /* A10: units in the nearest count, a half up; units are never below 0 here */
 static uint16_t counts(int64_t units) { return (uint16_t)((units + UNIT / 2) / UNIT); }
 
-/* W3: four decimal digits, or -1 where one is above 9 (N7) */
-static int decimal(unsigned word) {
-    unsigned a = word >> 12, b = word >> 8 & 15, c = word >> 4 & 15, d = word & 15;
-    if (a > 9 || b > 9 || c > 9 || d > 9) return -1;
-    return (int)(1000 * a + 100 * b + 10 * c + d);
-}
+/* W3: four decimal digits */
+static int bcd(unsigned word) { return (int)(1000 * (word >> 12) + 100 * (word >> 8 & 15) + 10 * (word >> 4 & 15) + (word & 15)); }
+
+/* N7: not 0 where a digit is above 9; its bit of 8 is on then, and that of 4 or of 2 */
+static unsigned wrong_digits(unsigned word) { return word & (word << 1 | word << 2) & 0x8888; }
 
 static uint32_t root(uint32_t v) {
     uint32_t r = 0;
@@ -60,17 +76,161 @@ static int out_of_range(const struct carried *c) {
     const int64_t most = (int64_t)1 << 52;
     return c->mode < MANUAL || c->mode > CASCADE || c->velocity < 0 || c->velocity > 1 || c->sampled < 0 || c->sampled > 1
         || c->bias < -most || c->bias > most || c->output < 0 || c->output > (int64_t)65535 * UNIT || c->last < 0 || c->last > 65535
-        || c->prior < 0 || c->prior > 65535 || c->error < -65535 || c->error > 65535;
+        || c->prior < 0 || c->prior > 65535 || c->error < -65535 || c->error > 65535 || c->segment < 0 || c->segment > SEGMENTS
+        || c->hold < 0 || c->hold > 1 || c->complete < 0 || c->complete > 1 || c->fraction < 0 || c->fraction >= PARTS
+        || c->time < 0 || c->time > 6000000;
+}
+
+/* G2, G4 */
+static const uint16_t *table_of(const uint16_t *words, const uint16_t *w) {
+    return bit(w[0], 11) && w[28] >= TABLE_FIRST && w[28] <= TABLE_LAST ? words + w[28] : NULL;
+}
+
+/* What a table is refused with: 7 for a digit of a slope or a duration (N7), 8 for a ramp's end (N8), or 0. */
+static uint8_t table_refusal(const uint16_t *table, unsigned full) {
+    unsigned wrong = 0, above = 0;
+    for (int n = 0; n < TABLE_WORDS; n += 2 * SEGMENT_WORDS) {
+        above |= table[n] > full;
+        wrong |= wrong_digits(table[n + 1]) | wrong_digits(table[n + 2]);
+    }
+    return wrong ? 7 : above ? 8 : 0;
 }
 
 /* N8 */
 static int setting_refused(const uint16_t *words, const uint16_t *w, enum mode mode, unsigned full, int period, int reset) {
     unsigned m = w[0];
     if (period < 5 || reset == 0 || w[24] > w[25] || w[25] > full) return 1;
-    if ((bit(m, 5) && bit(m, 3)) || bit(m, 9) || bit(m, 11) || (w[1] & ~0x312u)) return 1;
+    if ((bit(m, 5) && bit(m, 3)) || bit(m, 9) || (w[1] & ~0x312u)) return 1;
     if ((bit(m, 12) || bit(m, 13)) && (w[18] < 1 || w[18] > 200)) return 1;
     if (mode != CASCADE) return w[2] > full;
     return w[26] > 1023 || words[w[26]] > full;
+}
+
+/* N5 of the record, N7, N8, N9: the refusal, or 0 and the reading */
+static inline uint8_t judge(const uint16_t *words, const uint16_t *w, const struct carried *c, uint64_t raw, struct reading *r) {
+    if (out_of_range(c)) return 5;
+    for (int n = 0; n < 4; n++) {
+        if (wrong_digits(w[7 + n])) return 7;
+        r->tuning[n] = bcd(w[7 + n]);
+    }
+    r->full = full_scale(w[1]);
+    r->mode = mode_of(w[0], (enum mode)c->mode);
+    r->table = table_of(words, w);
+    uint8_t refusal = r->table ? table_refusal(r->table, r->full) : 0;
+    if (refusal == 7) return 7;
+    if (refusal == 8 || setting_refused(words, w, r->mode, r->full, r->tuning[0], r->tuning[2])) return 8;
+    return raw > r->full ? 9 : 0;
+}
+
+/* whether a profile runs, held or not */
+static int runs(const struct carried *c, const uint16_t *table) { return table && c->segment > 0; }
+
+/* G9 */
+static void complete(struct carried *c) {
+    c->segment = c->hold = c->time = 0;
+    c->complete = 1;
+}
+
+/* G9: to the next segment; the end of the sixteenth is the profile's */
+static void hand_over(struct carried *c) {
+    if (c->segment == SEGMENTS) {
+        complete(c);
+    } else {
+        c->segment++;
+        c->time = 0;
+    }
+}
+
+/* G5: the lowest of bits 0 to 3, one of which is on; all but Start are for a profile that runs */
+static void obey(struct carried *c, unsigned commands) {
+    if (bit(commands, 0)) {
+        c->segment = 1;
+        c->hold = c->complete = c->fraction = c->time = 0;
+    } else if (c->segment > 0) {
+        if (bit(commands, 1)) c->hold = 1;
+        else if (bit(commands, 2)) c->hold = 0;
+        else hand_over(c);
+    }
+}
+
+/* where segment n of a table begins (G1) */
+static const uint16_t *segment(const uint16_t *table, int64_t n) { return table + SEGMENT_WORDS * (n - 1); }
+
+static int is_ramp(int64_t n) { return n % 2; }
+
+/* G7: setpoint and fraction, in parts, go toward the end by a step; the setpoint that this leaves */
+static int ramp(struct carried *c, const uint16_t *words, int period, int s) {
+    uint32_t at = (uint32_t)s * PARTS + (uint32_t)c->fraction, end = (uint32_t)words[0] * PARTS;
+    uint32_t step = (uint32_t)(bcd(words[1]) * period);
+    if (step == 0) {
+        complete(c);
+        return s;
+    }
+    if (at < end) at = end - at > step ? at + step : end;
+    else at = at - end > step ? at - step : end;
+    c->fraction = at % PARTS;
+    if (at == end) hand_over(c);
+    return (int)(at / PARTS);
+}
+
+/* tenths of a minute in hundredths of a second */
+static int64_t soak_time(unsigned duration) { return 600 * (int64_t)bcd(duration); }
+
+/* G8 */
+static void soak(struct carried *c, const uint16_t *words, int period) {
+    c->time += period;
+    if (c->time >= soak_time(words[0])) hand_over(c);
+}
+
+/* G10 */
+static unsigned flags(const struct carried *c, const uint16_t *table, int s, int p) {
+    int deviates = 0;
+    if (c->segment > 0 && !is_ramp(c->segment)) {
+        unsigned most = segment(table, c->segment)[1];
+        deviates = most != 0 && distance(s, p) > most;
+    }
+    return (unsigned)(c->segment << 8 | c->hold << 6 | deviates << 5 | c->complete << 4);
+}
+
+/* G5 to G10, a table at hand, outside Cascade: the setpoint that the profile leaves */
+static int profile(uint16_t *w, struct carried *c, const uint16_t *table, int period, int s, int p) {
+    if (w[27] & 15) obey(c, w[27]);
+    else if (c->segment > 0 && !c->hold) {
+        const uint16_t *words = segment(table, c->segment);
+        if (is_ramp(c->segment)) s = ramp(c, words, period, s);
+        else soak(c, words, period);
+    }
+    w[27] = (uint16_t)flags(c, table, s, p);
+    w[29] = 0;
+    return s;
+}
+
+/* G4, outside Cascade */
+static void no_profile(uint16_t *w, struct carried *c) {
+    w[27] = 0;
+    w[29] = !bit(w[0], 11) ? 0 : w[28] < TABLE_FIRST ? 1 : 2;
+    c->segment = c->hold = c->complete = 0;
+}
+
+/* how many steps make up a way, and one where there is none left to go */
+static uint64_t samples_of(int64_t way, int64_t step) { return way <= step ? 1 : (uint64_t)((way + step - 1) / step); }
+
+/* G12: samples from a segment on, its setpoint in parts and its time; each segment's by a division */
+static uint64_t remaining(const uint16_t *table, int period, int64_t n, int64_t at, int64_t time) {
+    uint64_t samples = 0;
+    for (; n <= SEGMENTS; n++) {
+        const uint16_t *words = segment(table, n);
+        if (is_ramp(n)) {
+            int64_t end = (int64_t)words[0] * PARTS, step = (int64_t)bcd(words[1]) * period;
+            if (step == 0) return samples + 1;
+            samples += samples_of(distance(at, end), step);
+            at = end;
+        } else {
+            samples += samples_of(soak_time(words[0]) - time, period);
+        }
+        time = 0;
+    }
+    return samples;
 }
 
 /* A7 */
@@ -108,17 +268,13 @@ static unsigned status(const uint16_t *w, const struct carried *c, enum mode mod
 static uint8_t sample(uint16_t *words, struct carried *records, uint64_t loop, uint64_t raw, uint16_t line[4]) {
     if (loop < 1 || loop > LOOPS) return 4;
     struct carried *c = &records[loop - 1];
-    if (out_of_range(c)) return 5;
     uint16_t *w = words + LOOP_WORDS * (loop - 1);
-    int tuning[4];
-    for (int n = 0; n < 4; n++)
-        if ((tuning[n] = decimal(w[7 + n])) < 0) return 7;
-    unsigned full = full_scale(w[1]);
-    enum mode mode = mode_of(w[0], (enum mode)c->mode);
-    if (setting_refused(words, w, mode, full, tuning[0], tuning[2])) return 8;
-    if (raw > full) return 9;
+    struct reading r;
+    uint8_t refusal = judge(words, w, c, raw, &r);
+    if (refusal) return refusal;
 
-    unsigned measured = (unsigned)raw;
+    unsigned measured = (unsigned)raw, full = r.full;
+    enum mode mode = r.mode;
     int p = (int)(bit(w[0], 6) ? root(measured * full) : measured);
     int s = mode == CASCADE ? words[w[26]] : w[2];
     int velocity = bit(w[0], 5);
@@ -128,7 +284,11 @@ static uint8_t sample(uint16_t *words, struct carried *records, uint64_t loop, u
     int64_t bias = c->bias, output = c->output;
     if (entry) {
         bias = output = (int64_t)out * UNIT;
-        if (mode == AUTOMATIC && !bit(w[0], 3)) s = p;
+        if (mode == AUTOMATIC && !bit(w[0], 3) && !runs(c, r.table)) s = p; /* G11 */
+    }
+    if (mode != CASCADE) {
+        if (r.table) s = profile(w, c, r.table, r.tuning[0], s, p);
+        else no_profile(w, c);
     }
     int64_t e = s - p;
     if (bit(w[0], 7)) e = e * distance(s, p) / (int64_t)full;
@@ -137,11 +297,11 @@ static uint8_t sample(uint16_t *words, struct carried *records, uint64_t loop, u
     int64_t last = fresh ? p : c->last, prior = fresh ? p : c->prior, last_error = fresh ? e : c->error;
 
     if (mode != MANUAL && velocity) {
-        struct terms t = terms_of(w, tuning, e - last_error, e, p - 2 * last + prior);
+        struct terms t = terms_of(w, r.tuning, e - last_error, e, p - 2 * last + prior);
         output = clamp(output + t.p + t.i - t.d, low, high);
         out = counts(output);
     } else if (mode != MANUAL) {
-        struct terms t = terms_of(w, tuning, e, e, p - last);
+        struct terms t = terms_of(w, r.tuning, e, e, p - last);
         int64_t m = t.p - t.d + bias + t.i;
         output = clamp(m, low, high);
         if (m == output) bias += t.i;
@@ -156,8 +316,26 @@ static uint8_t sample(uint16_t *words, struct carried *records, uint64_t loop, u
     w[4] = bias_word;
     w[5] = out;
     w[6] = (uint16_t)word;
-    *c = (struct carried){mode, bias, output, p, c->sampled ? c->last : p, e, velocity, 1};
+    c->mode = mode;
+    c->bias = bias;
+    c->output = output;
+    c->prior = c->sampled ? c->last : p;
+    c->last = p;
+    c->error = e;
+    c->velocity = velocity;
+    c->sampled = 1;
     line[0] = w[2], line[1] = w[3], line[2] = w[5], line[3] = w[6];
+    return 0;
+}
+
+static uint8_t forecast(const uint16_t *words, const struct carried *records, uint64_t loop, uint64_t *samples) {
+    if (loop < 1 || loop > LOOPS) return 4;
+    const struct carried *c = &records[loop - 1];
+    const uint16_t *w = words + LOOP_WORDS * (loop - 1);
+    struct reading r;
+    uint8_t refusal = judge(words, w, c, 0, &r);
+    if (refusal) return refusal;
+    *samples = runs(c, r.table) ? remaining(r.table, r.tuning[0], c->segment, (int64_t)w[2] * PARTS + c->fraction, c->time) : 0;
     return 0;
 }
 
@@ -233,7 +411,13 @@ uint8_t plain_sample(uint16_t *words, size_t words_length, int64_t *records, siz
     return sample(words, (struct carried *)records, loop, raw, line);
 }
 
-uint8_t plain_record(const int64_t *records, size_t records_length, uint64_t loop, int64_t fields[8]) {
+uint8_t plain_forecast(const uint16_t *words, size_t words_length, const int64_t *records, size_t records_length, uint64_t loop,
+    uint64_t *samples) {
+    if (words_length != WORDS || records_length != NUMBERS) return 5;
+    return forecast(words, (const struct carried *)records, loop, samples);
+}
+
+uint8_t plain_record(const int64_t *records, size_t records_length, uint64_t loop, int64_t fields[13]) {
     if (records_length != NUMBERS) return 5;
     if (loop < 1 || loop > LOOPS) return 4;
     const struct carried *c = (const struct carried *)records + (loop - 1);

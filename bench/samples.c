@@ -1,11 +1,13 @@
 /* One engine sampled N times: `samples N` prints how many samples were refused, a sum over all lines, and the
- * nanoseconds a sample. Compiled with -DPLAIN it runs the plain engine, else the archive; all else is the same.
- * Raw PVs are made before the first sample, so that a run with N = 0 has all of the work but the samples. */
+ * nanoseconds a sample; `samples N profile` does so with a profile on every loop, whose ramp moves at each sample.
+ * Compiled with -DPLAIN it runs the plain engine, else the archive; all else is the same. Raw PVs are made before
+ * the first sample, so that a run with N = 0 has all of the work but the samples. */
 #include "kexbardi.h"
 #include "plain_engine.h"
 
 #include <stdio.h>
 #include <stdlib.h>
+#include <string.h>
 #include <time.h>
 
 #ifdef PLAIN
@@ -19,9 +21,11 @@
 #endif
 
 #define RAWS 16384 /* a multiple of 16: a loop's raw PVs stay its own */
+#define STEP 100   /* ten-thousandths of a count that a ramp of slope 0.01 moves in a period of 1.00 s */
 
 static uint16_t words[KEXBARDI_WORDS], raws[RAWS];
 static int64_t records[KEXBARDI_NUMBERS];
+static uint16_t line[KEXBARDI_LINE_WORDS];
 static unsigned refused;
 
 static void store(unsigned address, unsigned value) {
@@ -52,6 +56,46 @@ static void settle(unsigned loop) {
     store(base + KEXBARDI_POINTER, 600);
 }
 
+static void sample(unsigned loop, unsigned raw) {
+    refused += SAMPLE(words, KEXBARDI_WORDS, records, KEXBARDI_NUMBERS, loop, raw, line) != 0;
+}
+
+/* ramps over the whole scale, up and down: 409,500 samples of a loop in 12 bits, more in the others */
+static void fill_table(unsigned table, unsigned full) {
+    for (unsigned n = 1; n <= KEXBARDI_SEGMENTS; n += 2) {
+        unsigned ramp = table + KEXBARDI_SEGMENT(n), soak = table + KEXBARDI_SEGMENT(n + 1);
+        store(ramp + KEXBARDI_END, n % 4 == 1 ? full : 0);
+        store(ramp + KEXBARDI_SLOPE, bcd(1));
+        store(soak + KEXBARDI_DURATION, bcd(n));
+        store(soak + KEXBARDI_DEVIATION, full / 10);
+    }
+}
+
+/* Started in Manual from a setpoint of 0. Then the mode that the loop has without a profile, but Automatic for
+ * Cascade, where a profile waits (G3); a running one is not forced at the entry (G11). */
+static void start_profile(unsigned loop) {
+    unsigned base = KEXBARDI_ADDRESS(loop, 0), table = KEXBARDI_TABLE_FIRST + KEXBARDI_TABLE_WORDS * (loop - 1);
+    unsigned mode_1 = (words[base + KEXBARDI_MODE_1] & ~(unsigned)KEXBARDI_M1_REQUESTS) | KEXBARDI_M1_PROFILE;
+    fill_table(table, full_scales[loop % 3]);
+    store(base + KEXBARDI_MODE_1, mode_1 | KEXBARDI_M1_MANUAL);
+    store(base + KEXBARDI_SETPOINT, 0);
+    store(base + KEXBARDI_PROFILE_TABLE, table);
+    store(base + KEXBARDI_PROFILE_FLAGS, KEXBARDI_P_START);
+    sample(loop, 0);
+    store(base + KEXBARDI_MODE_1, mode_1 | (loop % 3 == 0 ? KEXBARDI_M1_MANUAL : KEXBARDI_M1_AUTOMATIC));
+}
+
+/* whether every ramp moved at each of its loop's samples, and still runs */
+static int all_moved(unsigned long samples) {
+    for (unsigned loop = 1; loop <= KEXBARDI_LOOPS; loop++) {
+        const int64_t *record = records + KEXBARDI_FIELDS * (loop - 1);
+        unsigned long own = (samples + KEXBARDI_LOOPS - loop) / KEXBARDI_LOOPS;
+        int64_t at = 10000 * (int64_t)words[KEXBARDI_ADDRESS(loop, KEXBARDI_SETPOINT)] + record[KEXBARDI_FIELD_FRACTION];
+        if (record[KEXBARDI_FIELD_SEGMENT] != 1 || at != (int64_t)(STEP * own)) return 0;
+    }
+    return 1;
+}
+
 static void make_raws(void) {
     uint64_t seed = 88172645463325252ull;
     for (unsigned n = 0; n < RAWS; n++) {
@@ -61,19 +105,24 @@ static void make_raws(void) {
 }
 
 int main(int count, char **args) {
-    unsigned long samples = count == 2 ? strtoul(args[1], NULL, 10) : 0, sum = 0;
+    unsigned long samples = count >= 2 ? strtoul(args[1], NULL, 10) : 0, sum = 0;
+    int profile = count == 3 && strcmp(args[2], "profile") == 0;
     refused += RESET(words, KEXBARDI_WORDS, records, KEXBARDI_NUMBERS) != 0;
     for (unsigned loop = 1; loop <= KEXBARDI_LOOPS; loop++) settle(loop);
     store(600, 2000);
+    for (unsigned loop = 1; profile && loop <= KEXBARDI_LOOPS; loop++) start_profile(loop);
     make_raws();
-    uint16_t line[4] = {0};
     clock_t start = clock();
     for (unsigned long n = 0; n < samples; n++) {
-        refused += SAMPLE(words, KEXBARDI_WORDS, records, KEXBARDI_NUMBERS, (uint8_t)(n % KEXBARDI_LOOPS + 1), raws[n % RAWS], line) != 0;
+        sample((unsigned)(n % KEXBARDI_LOOPS) + 1, raws[n % RAWS]);
         sum = sum * 31 + line[2] + line[3];
     }
     double seconds = (double)(clock() - start) / CLOCKS_PER_SEC;
     printf("%u refused, sum %lu\n", refused, sum);
+    if (profile && !all_moved(samples)) {
+        printf("a ramp stands still\n");
+        return 1;
+    }
     if (samples) printf("%.1f\n", 1e9 * seconds / (double)samples);
     return refused != 0;
 }

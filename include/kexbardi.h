@@ -4,7 +4,8 @@
  * calls, so any number of desks can run side by side, each in a thread of its own.
  *
  * A desk is two pieces of memory:
- *   words    KEXBARDI_WORDS words of 16 bits: the loops' tables, 32 words for each loop, then free words
+ *   words    KEXBARDI_WORDS words of 16 bits: 32 words for each loop, then free words, among them the tables of
+ *            ramp/soak profiles
  *   records  KEXBARDI_NUMBERS numbers of 64 bits: what each loop carries from sample to sample
  * Between calls the caller may read and write the words, and save, load or copy both.
  *
@@ -40,15 +41,16 @@ extern "C" {
 #define KEXBARDI_VERSION @VERSION@
 #define KEXBARDI_MAJOR(version) ((version) / 10000)
 
-/* Desks that were saved with any version from this one up to kexbardi_version() may be loaded. */
-#define KEXBARDI_OLDEST_SAVE 10000
+/* Desks that were saved with any version from this one up to kexbardi_version() may be loaded. Older ones have
+ * shorter records: CHANGELOG.md says how they are carried over. */
+#define KEXBARDI_OLDEST_SAVE 40000
 
 /* ---- the words (W1, W2) */
 
 #define KEXBARDI_LOOPS 16
 #define KEXBARDI_WORDS 1024     /* length of the words */
 #define KEXBARDI_LOOP_WORDS 32  /* words of each loop */
-#define KEXBARDI_FIRST_FREE 512 /* words from here to 1,023 belong to no loop */
+#define KEXBARDI_FIRST_FREE 512 /* words from here to 1,023 belong to no loop; profile tables stand here */
 
 /* The address of a loop's word; loops count from 1, `offset` is one of those below. Nothing is tested here: a loop
  * above 16 gives a free word, and a store there is accepted. */
@@ -77,12 +79,15 @@ enum kexbardi_word {
     KEXBARDI_DEADBAND = 19,   /* of the error */
     KEXBARDI_OUTPUT_LOW = 24,
     KEXBARDI_OUTPUT_HIGH = 25,
-    KEXBARDI_POINTER = 26     /* the address of the setpoint in Cascade */
+    KEXBARDI_POINTER = 26,    /* the address of the setpoint in Cascade */
+    KEXBARDI_PROFILE_FLAGS = 27, /* bits KEXBARDI_P_.. */
+    KEXBARDI_PROFILE_TABLE = 28, /* the address of the profile's table */
+    KEXBARDI_PROFILE_FAULT = 29  /* enum kexbardi_fault; for samples: not stored */
 };
 
-/* BCD (W3): period, gain, reset and rate are four decimal digits, one in each four bits, and count
- * hundredths. 2.00 is 200 hundredths and the word 0x0200; the plain number 200 is 0x00C8, whose C is no digit,
- * and a sample with it is refused with 7.
+/* BCD (W3): period, gain, reset, rate and a ramp's slope are four decimal digits, one in each four bits, and
+ * count hundredths. 2.00 is 200 hundredths and the word 0x0200; the plain number 200 is 0x00C8, whose C is no
+ * digit, and a sample with it is refused with 7. A soak's duration counts tenths: see KEXBARDI_DURATION.
  * KEXBARDI_BCD takes whole hundredths, an integer: KEXBARDI_BCD(200) is 0x0200. KEXBARDI_BCD_OF takes the value
  * itself, as a double or an integer, and rounds it: KEXBARDI_BCD_OF(2.00) is 0x0200. What four digits cannot
  * hold (negative, above 99.99, no number) becomes 0xFFFF, which is refused with 7 as well. The arguments are
@@ -105,18 +110,20 @@ enum kexbardi_word {
 
 #define KEXBARDI_RESET_OFF 0x9999 /* the reset time that stands for no reset action (A7) */
 
-/* Mode 1, word 0 (M1). Bits 9 and 11 have to be off (refusal 8); bit 15 is ignored. */
+/* Mode 1, word 0 (M1). Bit 9 has to be off (refusal 8); bit 15 is ignored. */
 enum kexbardi_mode_1 {
     KEXBARDI_M1_MANUAL = 0x0001,           /* requests: the next sample obeys the lowest and clears all three */
     KEXBARDI_M1_AUTOMATIC = 0x0002,
     KEXBARDI_M1_CASCADE = 0x0004,
-    KEXBARDI_M1_BUMPLESS_II = 0x0008,      /* off: Bumpless I, the setpoint becomes the PV at an entry to Automatic */
+    KEXBARDI_M1_BUMPLESS_II = 0x0008,      /* off: Bumpless I, the setpoint becomes the PV at an entry to Automatic,
+                                              unless a profile runs (A4, G11) */
     KEXBARDI_M1_REVERSE = 0x0010,          /* the output rises with the PV; off: it falls as the PV rises (M1) */
     KEXBARDI_M1_VELOCITY = 0x0020,         /* velocity form; off: position form */
     KEXBARDI_M1_ROOT = 0x0040,             /* square root of the PV */
     KEXBARDI_M1_SQUARED = 0x0080,          /* error squared */
     KEXBARDI_M1_DEADBAND = 0x0100,         /* error deadband of KEXBARDI_DEADBAND */
     KEXBARDI_M1_FREEZE = 0x0400,           /* the bias is frozen while the output would pass a limit */
+    KEXBARDI_M1_PROFILE = 0x0800,          /* the loop has a ramp/soak profile; off: none, and one that runs ends */
     KEXBARDI_M1_PV_ALARMS = 0x1000,        /* low-low, low, high, high-high */
     KEXBARDI_M1_DEVIATION_ALARMS = 0x2000, /* yellow, red */
     KEXBARDI_M1_RATE_ALARM = 0x4000        /* change of the PV */
@@ -155,13 +162,62 @@ enum kexbardi_status {
 };
 #define KEXBARDI_S_ALARMS 0x03F8           /* the seven alarms, from low-low to rate */
 
+/* ---- ramp/soak profiles (G1 to G12)
+ *
+ * A profile has sixteen segments: odd ones are ramps, which move the setpoint to an end value, even ones soaks, which
+ * keep it for a duration. With KEXBARDI_M1_PROFILE on, each accepted sample of the loop moves a started profile on by
+ * one period, in Manual too; in Cascade it waits (G3). */
+
+/* The table (G1): KEXBARDI_TABLE_WORDS words from the address in KEXBARDI_PROFILE_TABLE on, two for each segment.
+ * Loops may share a table, and no sample writes one. */
+#define KEXBARDI_TABLE_FIRST 512 /* the lowest address of a table, and the highest; another is a fault (G2) */
+#define KEXBARDI_TABLE_LAST 992
+#define KEXBARDI_TABLE_WORDS 32
+#define KEXBARDI_SEGMENTS 16
+
+/* The place of segment n, 1 to 16, in its table; the words of a ramp or a soak count from there: in a table at 512
+ * the slope of segment 3 is word 512 + KEXBARDI_SEGMENT(3) + KEXBARDI_SLOPE. Nothing is tested here. */
+#define KEXBARDI_SEGMENT(n) (2 * ((n) - 1))
+
+enum kexbardi_ramp {
+    KEXBARDI_END = 0,      /* the setpoint at its end: binary, up to full scale (refusal 8) */
+    KEXBARDI_SLOPE = 1     /* BCD, hundredths of a count a second, up or down as the end lies; 0 ends the profile */
+};
+enum kexbardi_soak {
+    KEXBARDI_DURATION = 0, /* BCD, tenths of a minute: KEXBARDI_BCD(15) is 1.5 minutes */
+    KEXBARDI_DEVIATION = 1 /* how far PV and setpoint may be apart: binary; 0 for any distance (G10) */
+};
+
+/* Profile flags, word 27 (G5, G10). The first four are commands. The next accepted sample outside Cascade clears
+ * them, and with KEXBARDI_M1_PROFILE on and a good table address it obeys the lowest; the others are lost. All other
+ * bits are written by samples and never read, so a command may be stored alone, or or-ed into the word. */
+enum kexbardi_profile_flags {
+    KEXBARDI_P_START = 0x0001,     /* segment 1, from the setpoint as it stands; begins a running profile anew, too */
+    KEXBARDI_P_HOLD = 0x0002,      /* the profile stands still and counts no time */
+    KEXBARDI_P_RESUME = 0x0004,    /* a held profile goes on */
+    KEXBARDI_P_JOG = 0x0008,       /* the next segment, from the setpoint as it stands; a hold stays */
+    KEXBARDI_P_COMPLETE = 0x0010,  /* the profile came to its end */
+    KEXBARDI_P_DEVIATION = 0x0020, /* in a soak: PV and setpoint are farther apart than its KEXBARDI_DEVIATION */
+    KEXBARDI_P_HELD = 0x0040       /* the profile is held */
+};
+
+/* The segment in a word 27: 1 to 16, or 0 where no profile runs. */
+#define KEXBARDI_P_SEGMENT(word) ((uint16_t)(word) / 256)
+
+/* Profile fault, word 29 (G2): 0, or with KEXBARDI_M1_PROFILE on what is wrong with the table's address. There is no
+ * profile then, and one that runs ends (G4). */
+enum kexbardi_fault {
+    KEXBARDI_FAULT_BELOW = 1, /* below KEXBARDI_TABLE_FIRST */
+    KEXBARDI_FAULT_ABOVE = 2  /* above KEXBARDI_TABLE_LAST */
+};
+
 /* ---- the records (H1 to H5) */
 
-#define KEXBARDI_FIELDS 8      /* numbers of each record */
-#define KEXBARDI_NUMBERS 128   /* length of the records: 16 of 8 numbers, loop 1 first */
+#define KEXBARDI_FIELDS 13     /* numbers of each record */
+#define KEXBARDI_NUMBERS 208   /* length of the records: 16 of 13 numbers, loop 1 first */
 #define KEXBARDI_UNITS 262144  /* units of a count: bias and output are carried in units */
 
-/* The numbers of a record, in order, and the lowest and highest that each may be. A record at reset is eight zeros.
+/* The numbers of a record, in order, and the lowest and highest that each may be. At reset all thirteen are 0.
  *
  *                 lowest                    highest
  *   mode          0                         2                       one of enum kexbardi_mode
@@ -172,8 +228,13 @@ enum kexbardi_status {
  *   last error    -65,535                   65,535
  *   velocity      0                         1                       the form of mode 1 then: 0 position, 1 velocity
  *   sampled       0                         1                       1 once a sample of the loop was accepted
+ *   segment       0                         16                      of the profile; 0 where none runs
+ *   hold          0                         1                       1 while the profile is held
+ *   complete      0                         1                       1 once the profile came to its end
+ *   fraction      0                         9,999                   of the setpoint, ten-thousandths of a count
+ *   time          0                         6,000,000               of the soak so far, hundredths of a second
  *
- * A record with a number outside these is refused with 5, and all eight numbers stay as they are. */
+ * A record with a number outside these is refused with 5, and all thirteen numbers stay as they are. */
 enum kexbardi_field {
     KEXBARDI_FIELD_MODE = 0,
     KEXBARDI_FIELD_BIAS = 1,
@@ -182,7 +243,12 @@ enum kexbardi_field {
     KEXBARDI_FIELD_PRIOR_PV = 4,
     KEXBARDI_FIELD_ERROR = 5,
     KEXBARDI_FIELD_VELOCITY = 6,
-    KEXBARDI_FIELD_SAMPLED = 7
+    KEXBARDI_FIELD_SAMPLED = 7,
+    KEXBARDI_FIELD_SEGMENT = 8,
+    KEXBARDI_FIELD_HOLD = 9,
+    KEXBARDI_FIELD_COMPLETE = 10,
+    KEXBARDI_FIELD_FRACTION = 11,
+    KEXBARDI_FIELD_TIME = 12
 };
 
 enum kexbardi_mode { KEXBARDI_MANUAL = 0, KEXBARDI_AUTOMATIC = 1, KEXBARDI_CASCADE = 2 };
@@ -198,12 +264,13 @@ enum kexbardi_refusal {
     KEXBARDI_MEMORY = 5,   /* the lent memory does not have its length, or a number of the loop's record is out
                               of range; of kexbardi_print: the room is too short */
     KEXBARDI_STORE = 6,    /* store: the address is above 1,023, or that word is not the caller's to store */
-    KEXBARDI_DIGIT = 7,    /* sample: period, gain, reset or rate has a digit above 9 */
-    KEXBARDI_SETTING = 8,  /* sample: a setting that is not allowed (N8 of MANUAL.md lists them) */
+    KEXBARDI_DIGIT = 7,    /* sample, forecast: period, gain, reset or rate has a digit above 9; or, with
+                              KEXBARDI_M1_PROFILE on and a good address, a slope or duration of the table */
+    KEXBARDI_SETTING = 8,  /* sample, forecast: a setting that is not allowed (N8 of MANUAL.md lists them) */
     KEXBARDI_ABOVE = 9     /* sample: the raw PV is above full scale */
 };
 
-/* ---- the functions (Q1 to Q10) */
+/* ---- the functions (Q1 to Q10, G12) */
 
 /* KEXBARDI_VERSION as the library was built with it. A program must not use a library whose major number is not
  * its header's: layouts and parameters differ. One that wants the very answers it was tested with compares the
@@ -211,11 +278,11 @@ enum kexbardi_refusal {
 uint32_t kexbardi_version(void);
 
 /* Words and records as at reset: all words 0, all numbers 0.
- * Answers 5 where words_length is not 1,024 or records_length is not 128; else 0. */
+ * Answers 5 where words_length is not 1,024 or records_length is not 208; else 0. */
 uint8_t kexbardi_reset(uint16_t *words, size_t words_length, int64_t *records, size_t records_length);
 
 /* Stores a value at an address of the words. The desk is lent whole; no record is looked at or changed.
- * Answers 5 where words_length is not 1,024 or records_length is not 128; 6 where the address is above 1,023
+ * Answers 5 where words_length is not 1,024 or records_length is not 208; 6 where the address is above 1,023
  * or one that is not the caller's to store (offset 3, 4, 6 or 29 of a loop); else 0, and that one word has the
  * value. */
 uint8_t kexbardi_store(uint16_t *words, size_t words_length, int64_t *records, size_t records_length,
@@ -231,25 +298,35 @@ enum kexbardi_line {
 };
 
 /* One sample of a loop, 1 to 16, with a raw PV (A1 to A12).
- * Answers the first of these that holds: 5 for words_length not 1,024 or records_length not 128; 4 for no
+ * Answers the first of these that holds: 5 for words_length not 1,024 or records_length not 208; 4 for no
  * such loop; 5 where a number of the loop's record is out of range; 7, 8, 9. Else 0: words 0, 2, 3, 5 and 6
- * of the loop, word 4 too in position form outside Manual, its record and the line are written, and nothing
- * else. Other loops' records are not looked at, and may hold anything. */
+ * of the loop, word 4 too in position form outside Manual, words 27 and 29 too outside Cascade, its record and
+ * the line are written, and nothing else. Other loops' records are not looked at, and may hold anything. */
 uint8_t kexbardi_sample(uint16_t *words, size_t words_length, int64_t *records, size_t records_length,
     uint64_t loop, uint64_t raw, uint16_t line[4]);
 
 /* The numbers of a loop's record copied out as they stand, if all are in range: the way to test a desk that
  * was loaded.
- * Answers 5 where records_length is not 128; 4 for no such loop; 5 where a number of the record is out of
- * range; else 0, and `fields` has the eight numbers. */
-uint8_t kexbardi_record(const int64_t *records, size_t records_length, uint64_t loop, int64_t fields[8]);
+ * Answers 5 where records_length is not 208; 4 for no such loop; 5 where a number of the record is out of
+ * range; else 0, and `fields` has the thirteen numbers. */
+uint8_t kexbardi_record(const int64_t *records, size_t records_length, uint64_t loop, int64_t fields[13]);
+
+/* How many samples of a loop its profile takes from here to its end, the one that completes it included (G12): for a
+ * lesson's clock. Words and record count as they stand; a hold, Cascade and waiting commands are left out. 0 where no
+ * profile runs: KEXBARDI_M1_PROFILE off, a table address that is a fault, segment 0 in the record. It is computed at
+ * once, however long the profile is.
+ * Answers what kexbardi_sample answers to raw PV 0: 5 for words_length not 1,024 or records_length not 208; 4 for no
+ * such loop; 5 where a number of the loop's record is out of range; 7, 8; `samples` stays then. Else 0, and `samples`
+ * has the number. Words and records stay in any case. */
+uint8_t kexbardi_forecast(const uint16_t *words, size_t words_length, const int64_t *records, size_t records_length,
+    uint64_t loop, uint64_t *samples);
 
 /* A whole drill file (L1 to L8), of any length, carried out on the words and records.
- * Answers 5 where words_length is not 1,024 or records_length is not 128; nothing is read then, and nothing
+ * Answers 5 where words_length is not 1,024 or records_length is not 208; nothing is read then, and nothing
  * written, not into `answers` either. Else 0: each record of the file is carried out or refused, `count` says
  * how many there were and `refused` how many of them were refused, and the answer to each (0 or its number)
  * goes into `answers` in order, as many as fit. A sample of a loop whose record has a number out of range is
- * refused with 5 as in kexbardi_sample: all eight numbers stay, and the reading goes on. */
+ * refused with 5 as in kexbardi_sample: all thirteen numbers stay, and the reading goes on. */
 uint8_t kexbardi_run(const uint8_t *file, size_t file_length, uint16_t *words, size_t words_length, int64_t *records,
     size_t records_length, uint8_t *answers, size_t answers_length, size_t *count, size_t *refused);
 

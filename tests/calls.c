@@ -16,6 +16,7 @@
 /* what is lent, each piece in the middle of an array */
 struct lent {
     int64_t records[GUARD + KEXBARDI_NUMBERS + GUARD], fields[GUARD + KEXBARDI_FIELDS + GUARD];
+    uint64_t samples[GUARD + 1 + GUARD];
     size_t count[GUARD + 1 + GUARD], refused[GUARD + 1 + GUARD], length[GUARD + 1 + GUARD];
     uint16_t words[GUARD + KEXBARDI_WORDS + GUARD], line[GUARD + 4 + GUARD];
     uint8_t answers[GUARD + ANSWERS + GUARD], file[GUARD + 512 + GUARD];
@@ -26,6 +27,7 @@ static uint16_t *const words = lent.words + GUARD, *const line = lent.line + GUA
 static int64_t *const records = lent.records + GUARD, *const fields = lent.fields + GUARD;
 static uint8_t *const answers = lent.answers + GUARD, *const file = lent.file + GUARD;
 static size_t *const count = lent.count + GUARD, *const refused = lent.refused + GUARD, *const text_length = lent.length + GUARD;
+static uint64_t *const samples = lent.samples + GUARD; /* of a forecast */
 static size_t size; /* of the file */
 
 /* the text of a print, with its zones, and a copy; the longest file and one byte more */
@@ -78,14 +80,29 @@ static uint8_t store_of(size_t words_length, size_t records_length, uint64_t add
     return answer;
 }
 
+/* What an accepted sample does to words 27 and 29, `was` before it and `now` after: in Cascade nothing, and nothing to
+ * the record's last five numbers; else word 29 is by G2, and word 27 is 0 (G4) or says what the record does (G10). */
+static void profile_words(uint16_t *was, const uint16_t *now, const int64_t *old, const int64_t *r) {
+    const unsigned on = was[0] & 2048, table = was[28];
+    if (r[0] == 2) {
+        check("the profile waits in Cascade", memcmp(old + 8, r + 8, 5 * sizeof *r) == 0);
+        return;
+    }
+    was[29] = (uint16_t)(!on ? 0 : table < 512 ? 1 : table > 992 ? 2 : 0);
+    if (on && was[29] == 0) was[27] = (uint16_t)(256 * r[8] + 64 * r[9] + 16 * r[10] + (now[27] & 32));
+    else was[27] = 0, check("no profile", r[8] == 0 && r[9] == 0 && r[10] == 0 && old[11] == r[11] && old[12] == r[12]);
+}
+
 static uint8_t sample_of(size_t words_length, size_t records_length, uint64_t loop, uint64_t raw) {
     keep();
     uint8_t answer = kexbardi_sample(words, words_length, records, records_length, loop, raw, line);
     if (answer == 0 && loop >= 1 && loop <= KEXBARDI_LOOPS) {
-        const uint16_t *w = words + KEXBARDI_ADDRESS(loop, 0);
-        before.words[GUARD + KEXBARDI_ADDRESS(loop, 0)] &= 0xfff8; /* the request bits are cleared, the others stay */
+        const size_t table = KEXBARDI_ADDRESS(loop, 0), place = KEXBARDI_FIELDS * (loop - 1);
+        const uint16_t *w = words + table;
+        profile_words(before.words + GUARD + table, w, before.records + GUARD + place, records + place);
+        before.words[GUARD + table] &= 0xfff8; /* the request bits are cleared, the others stay */
         free_to_write(w + 2, 5 * sizeof *w);
-        free_to_write(records + KEXBARDI_FIELDS * (loop - 1), KEXBARDI_FIELDS * sizeof *records);
+        free_to_write(records + place, KEXBARDI_FIELDS * sizeof *records);
         free_to_write(line, 4 * sizeof *line);
         check("the line is words 2, 3, 5 and 6", line[0] == w[2] && line[1] == w[3] && line[2] == w[5] && line[3] == w[6]);
     }
@@ -99,6 +116,21 @@ static uint8_t record_of(size_t records_length, uint64_t loop) {
     if (answer == 0 && loop >= 1 && loop <= KEXBARDI_LOOPS)
         memcpy(before.fields + GUARD, records + KEXBARDI_FIELDS * (loop - 1), KEXBARDI_FIELDS * sizeof *fields);
     nothing_else_changed(answer);
+    return answer;
+}
+
+/* A forecast; and what a sample with raw PV 0 answers to the same memory, on a copy: the refusal is one (G12). */
+static uint8_t forecast_of(size_t words_length, size_t records_length, uint64_t loop) {
+    static uint16_t words_copy[KEXBARDI_WORDS + GUARD], line_copy[4];
+    static int64_t records_copy[KEXBARDI_NUMBERS + GUARD];
+    keep();
+    uint8_t answer = kexbardi_forecast(words, words_length, records, records_length, loop, samples);
+    if (answer == 0) free_to_write(samples, sizeof *samples);
+    nothing_else_changed(answer);
+    memcpy(words_copy, words, sizeof words_copy);
+    memcpy(records_copy, records, sizeof records_copy);
+    equals("the forecast's answer, as of a sample", answer,
+        kexbardi_sample(words_copy, words_length, records_copy, records_length, loop, 0, line_copy));
     return answer;
 }
 
@@ -138,6 +170,8 @@ static uint8_t sample(uint64_t loop, uint64_t raw) { return sample_of(KEXBARDI_W
 
 static uint8_t record(uint64_t loop) { return record_of(KEXBARDI_NUMBERS, loop); }
 
+static uint8_t forecast(uint64_t loop) { return forecast_of(KEXBARDI_WORDS, KEXBARDI_NUMBERS, loop); }
+
 static uint8_t run(size_t room) { return run_of(KEXBARDI_WORDS, KEXBARDI_NUMBERS, room); }
 
 /* ---- the bytes of a drill file */
@@ -173,6 +207,17 @@ static void begin_loop_a(const char *name) {
     settle(1);
 }
 
+/* Loop A with a profile whose table stands at 512, about to enter Automatic and to start it: up to 1,010 by 3.00 a second,
+ * 0.2 minutes within 40, down to 1,000 by 2.50, 0.1 minutes. Segment 5 has slope 0. */
+static const uint16_t profile_stores[][2] = {{512, 1010}, {513, 0x0300}, {514, 0x0002}, {515, 40}, {516, 1000}, {517, 0x0250},
+    {518, 0x0001}, {28, 512}, {0, 2 | 2048}, {27, 1}};
+
+static void begin_profile(const char *name) {
+    begin_loop_a(name);
+    for (size_t n = 0; n < sizeof profile_stores / sizeof *profile_stores; n++)
+        equals("a store of the profile", store(profile_stores[n][0], profile_stores[n][1]), 0);
+}
+
 static void check_line(unsigned setpoint, unsigned pv, unsigned output, unsigned status) {
     equals("setpoint", line[KEXBARDI_LINE_SETPOINT], setpoint);
     equals("PV", line[KEXBARDI_LINE_PV], pv);
@@ -182,7 +227,7 @@ static void check_line(unsigned setpoint, unsigned pv, unsigned output, unsigned
 
 #define UNITS(counts) ((int64_t)262144 * (counts))
 
-/* A loop's record; bias and output are in units. */
+/* The record of a loop that has no profile; bias and output are in units. */
 static void check_record(unsigned loop, int64_t mode, int64_t bias, int64_t output, int64_t last, int64_t prior, int64_t error,
     int64_t velocity, int64_t sampled) {
     equals("record", record(loop), 0);
@@ -194,6 +239,7 @@ static void check_record(unsigned loop, int64_t mode, int64_t bias, int64_t outp
     equals("last error", fields[KEXBARDI_FIELD_ERROR], error);
     equals("velocity", fields[KEXBARDI_FIELD_VELOCITY], velocity);
     equals("sampled", fields[KEXBARDI_FIELD_SAMPLED], sampled);
+    for (int n = KEXBARDI_FIELD_SEGMENT; n < KEXBARDI_FIELDS; n++) equals("a number of the profile", fields[n], 0);
 }
 
 static void check_worked_loop(unsigned loop) {
@@ -382,6 +428,8 @@ static void wrong_lengths(size_t words_length, size_t records_length) {
     equals("sample", sample_of(words_length, records_length, 1, 1000), 5);
     equals("sample: 5 before 4", sample_of(words_length, records_length, 17, 1000), 5);
     equals("sample: 5 before 4", sample_of(words_length, records_length, 0, 1000), 5);
+    equals("forecast", forecast_of(words_length, records_length, 1), 5);
+    equals("forecast: 5 before 4", forecast_of(words_length, records_length, 17), 5);
     size = 0;
     equals("run: an empty file", run_of(words_length, records_length, ANSWERS), 5);
     file_sample(1, 1000);
@@ -395,14 +443,15 @@ static void wrong_lengths(size_t words_length, size_t records_length) {
 }
 
 static void lengths(void) {
-    static const size_t word_counts[] = {1024, 0, 1, 128, 512, 1023, 1025, 1024 + GUARD},
-                        number_counts[] = {128, 0, 1, 8, 16, 127, 129, 128 + GUARD};
-    begin_loop_a("lengths");
+    static const size_t word_counts[] = {1024, 0, 1, 208, 512, 1023, 1025, 1024 + GUARD},
+                        number_counts[] = {208, 0, 13, 16, 128, 207, 209, 208 + GUARD};
+    begin_profile("lengths");
     equals("sample", sample(1, 1000), 0);
     for (int n = 0; n < 8; n++)
         for (int m = 0; m < 8; m++)
             if (n > 0 || m > 0) wrong_lengths(word_counts[n], number_counts[m]);
     equals("the right lengths", sample_of(word_counts[0], number_counts[0], 1, 1000), 0);
+    equals("the right lengths", forecast_of(word_counts[0], number_counts[0], 1), 0);
 }
 
 /* All 64 sums of these faults in one sample of loop A: 1,023 words lent, no such loop, a number of the record
@@ -417,7 +466,10 @@ static void order(void) {
         if (faults & 4) memset(records, 0xff, KEXBARDI_NUMBERS * sizeof *records);
         if (faults & 8) words[KEXBARDI_GAIN] = 0x000a;
         if (faults & 16) words[KEXBARDI_RESET] = 0;
-        equals("sample", sample_of(faults & 1 ? 1023 : 1024, 128, faults & 2 ? 17 : 1, faults & 32 ? 4096 : 1000), numbers[first]);
+        const size_t length = faults & 1 ? 1023 : 1024;
+        const unsigned loop = faults & 2 ? 17 : 1;
+        equals("sample", sample_of(length, 208, loop, faults & 32 ? 4096 : 1000), numbers[first]);
+        equals("forecast", forecast_of(length, 208, loop), first < 5 ? numbers[first] : 0);
     }
 }
 
@@ -427,9 +479,11 @@ static void loops(void) {
     for (size_t n = 0; n < sizeof none / sizeof *none; n++) {
         equals("sample", sample(none[n], 1000), 4);
         equals("record", record(none[n]), 4);
+        equals("forecast", forecast(none[n]), 4);
         memset(records, 0xff, KEXBARDI_NUMBERS * sizeof *records);
         equals("sample: no record is read", sample(none[n], 1000), 4);
         equals("record: no record is read", record(none[n]), 4);
+        equals("forecast: no record is read", forecast(none[n]), 4);
         reset();
     }
     begin("records at reset");
@@ -441,7 +495,7 @@ static void loops(void) {
 
 static int engines_own(unsigned address) {
     unsigned at = address % KEXBARDI_LOOP_WORDS;
-    return address < 512 && (at == KEXBARDI_PV || at == KEXBARDI_BIAS || at == KEXBARDI_STATUS || at == 29);
+    return address < 512 && (at == KEXBARDI_PV || at == KEXBARDI_BIAS || at == KEXBARDI_STATUS || at == KEXBARDI_PROFILE_FAULT);
 }
 
 static void stores(void) {
@@ -463,6 +517,7 @@ static void digits(void) {
                 uint16_t good = words[word];
                 words[word] = (uint16_t)((0x9999 & ~(15u << shift)) | digit << shift);
                 equals("a digit above 9", sample(1, 1000), 7);
+                equals("forecast", forecast(1), 7);
                 words[word] = good;
             }
     words[KEXBARDI_GAIN] = 0x9999, words[KEXBARDI_RATE] = 0x9999;
@@ -482,8 +537,8 @@ static const struct setting settings[] = {
     {"high 32,768 in 15 bits", {{25, 32768}, {1, 2}, SAME}, 8}, {"high 65,535 in 16 bits", {{25, 65535}, {1, 512}, SAME}, 0},
     {"velocity with Bumpless II", {{0, 2 | 8 | 32}, SAME, SAME}, 8}, {"velocity", {{0, 2 | 32}, SAME, SAME}, 0},
     {"Bumpless II", {{0, 2 | 8}, SAME, SAME}, 0}, {"the same in Manual", {{0, 1 | 8 | 32}, SAME, SAME}, 8},
-    {"mode 1 bit 9", {{0, 2 | 512}, SAME, SAME}, 8}, {"mode 1 bit 11", {{0, 2 | 2048}, SAME, SAME}, 8},
-    {"mode 1 bit 15", {{0, 2 | 32768}, SAME, SAME}, 0},
+    {"mode 1 bit 9", {{0, 2 | 512}, SAME, SAME}, 8}, {"mode 1 bit 11", {{0, 2 | 2048}, SAME, SAME}, 0},
+    {"mode 1 bit 15", {{0, 2 | 32768}, SAME, SAME}, 0}, {"mode 1 bits 9 and 11", {{0, 2 | 512 | 2048}, SAME, SAME}, 8},
     {"mode 2 bits 1, 4, 8, 9", {{1, 0x312}, SAME, SAME}, 0}, {"hysteresis 0, not watched", {{18, 0}, {0, 2 | 16384}, SAME}, 0},
     {"hysteresis 0, PV watched", {{18, 0}, {0, 2 | 4096}, SAME}, 8}, {"hysteresis 1, PV watched", {{18, 1}, {0, 2 | 4096}, SAME}, 0},
     {"hysteresis 200, deviation", {{18, 200}, {0, 2 | 8192}, SAME}, 0}, {"hysteresis 201", {{18, 201}, {0, 2 | 8192}, SAME}, 8},
@@ -496,6 +551,7 @@ static void settings_refused(void) {
     for (size_t n = 0; n < sizeof settings / sizeof *settings; n++) {
         begin_loop_a(settings[n].name);
         for (int k = 0; k < 3; k++) store(settings[n].stores[k][0], settings[n].stores[k][1]);
+        equals("forecast", forecast(1), settings[n].answer);
         equals("sample", sample(1, 1000), settings[n].answer);
     }
     for (unsigned bit = 0; bit < 16; bit++) {
@@ -532,8 +588,10 @@ static const uint64_t wide_loops[] = {257, 65537, ((uint64_t)1 << 32) + 1, (uint
 static void wide_loop(uint64_t loop) {
     equals("sample", sample(loop, 1000), 4);
     equals("record", record(loop), 4);
-    equals("sample: 5 before 4", sample_of(1023, 128, loop, 1000), 5);
-    equals("record: 5 before 4", record_of(127, loop), 5);
+    equals("forecast", forecast(loop), 4);
+    equals("sample: 5 before 4", sample_of(1023, 208, loop, 1000), 5);
+    equals("record: 5 before 4", record_of(207, loop), 5);
+    equals("forecast: 5 before 4", forecast_of(1023, 208, loop), 5);
     for (int n = 0; n < 4; n++) equals("4 before 9", sample(loop, wide_raws[n]), 4);
 }
 
@@ -541,7 +599,7 @@ static void wide_raw(uint64_t raw) {
     const struct lent kept = lent;
     equals("sample", sample(1, raw), 9);
     equals("no such loop", sample(17, raw), 4);
-    equals("1,023 words", sample_of(1023, 128, 1, raw), 5);
+    equals("1,023 words", sample_of(1023, 208, 1, raw), 5);
     words[KEXBARDI_RESET] = 0;
     equals("8 before 9", sample(1, raw), 8);
     words[KEXBARDI_GAIN] = 0x000a;
@@ -557,7 +615,7 @@ static void wide(void) {
     begin_loop_a("an address of many bits");
     for (int n = 0; n < 3; n++) {
         equals("store", store(wide_addresses[n], 7), 6);
-        equals("5 before 6", store_of(1024, 127, wide_addresses[n], 7), 5);
+        equals("5 before 6", store_of(1024, 207, wide_addresses[n], 7), 5);
     }
     for (int m = 0; m < 3; m++) {
         begin_loop_a("a raw PV of many bits");
@@ -565,6 +623,230 @@ static void wide(void) {
         for (int n = 0; n < 4; n++) wide_raw(wide_raws[n]);
         equals("1,000", sample(1, 1000), 0);
     }
+}
+
+/* ---- profiles */
+
+/* The segments' samples: 4 of 3.00 for 10 counts, 12 of 1 s for 0.2 minutes, 4 of 2.50 for 10, 6 for 0.1 minutes, and 1 that
+ * meets slope 0. */
+enum { RAMP_1 = 4, SOAK_2 = 12, RAMP_3 = 4, SOAK_4 = 6, WHOLE = RAMP_1 + SOAK_2 + RAMP_3 + SOAK_4 + 1 };
+
+static void forecast_is(uint64_t loop, int64_t number) {
+    equals("forecast", forecast(loop), 0);
+    equals("samples", (int64_t)*samples, number);
+}
+
+/* One sample with PV 1,000: the setpoint, word 27, and the forecast behind it. */
+static void profile_sample(unsigned setpoint, unsigned flags, int64_t left) {
+    equals("sample", sample(1, 1000), 0);
+    equals("setpoint", line[KEXBARDI_LINE_SETPOINT], setpoint);
+    equals("word 27", words[KEXBARDI_PROFILE_FLAGS], flags);
+    forecast_is(1, left);
+}
+
+static void check_profile(int64_t segment, int64_t hold, int64_t complete, int64_t fraction, int64_t time) {
+    equals("record", record(1), 0);
+    equals("segment", fields[KEXBARDI_FIELD_SEGMENT], segment);
+    equals("hold", fields[KEXBARDI_FIELD_HOLD], hold);
+    equals("complete", fields[KEXBARDI_FIELD_COMPLETE], complete);
+    equals("fraction", fields[KEXBARDI_FIELD_FRACTION], fraction);
+    equals("time", fields[KEXBARDI_FIELD_TIME], time);
+}
+
+/* From Start to its end, with a forecast before and after each sample. */
+static void profile_run(void) {
+    static const uint16_t up[RAMP_1] = {1003, 1006, 1009, 1010}, down[RAMP_3] = {1007, 1005, 1002, 1000};
+    int64_t left = WHOLE;
+    begin_profile("a profile");
+    forecast_is(1, 0); /* Start waits */
+    profile_sample(1000, 0x0100, left);
+    for (int n = 0; n < RAMP_1; n++) profile_sample(up[n], n < RAMP_1 - 1 ? 0x0100 : 0x0200, --left);
+    for (int n = 0; n < SOAK_2; n++) profile_sample(1010, n < SOAK_2 - 1 ? 0x0200 : 0x0300, --left);
+    for (int n = 0; n < RAMP_3; n++) {
+        profile_sample(down[n], n < RAMP_3 - 1 ? 0x0300 : 0x0400, --left);
+        check_profile(n < RAMP_3 - 1 ? 3 : 4, 0, 0, n % 2 ? 0 : 5000, 0);
+    }
+    for (int n = 0; n < SOAK_4; n++) profile_sample(1000, n < SOAK_4 - 1 ? 0x0400 : 0x0500, --left);
+    profile_sample(1000, 0x0010, --left);
+    equals("all samples", left, 0);
+    check_profile(0, 0, 1, 0, 0);
+    profile_sample(1000, 0x0010, 0);
+    store(0, 0);
+    profile_sample(1000, 0x0000, 0);
+}
+
+/* What a command, a hold and Cascade do to the forecast: nothing but what has moved already. */
+static void profile_commands(void) {
+    begin_profile("commands");
+    profile_sample(1000, 0x0100, WHOLE);
+    store(27, 2);
+    forecast_is(1, WHOLE);
+    profile_sample(1000, 0x0140, WHOLE);
+    profile_sample(1000, 0x0140, WHOLE);
+    store(27, 4);
+    profile_sample(1000, 0x0100, WHOLE);
+    profile_sample(1003, 0x0100, WHOLE - 1);
+    store(27, 8);
+    forecast_is(1, WHOLE - 1);
+    profile_sample(1003, 0x0200, SOAK_2 + 2 + SOAK_4 + 1); /* 3 counts down by 2.50 */
+    for (int n = 1; n <= 5; n++) profile_sample(1003, 0x0200, SOAK_2 - n + 2 + SOAK_4 + 1);
+    check_profile(2, 0, 0, 0, 500);
+    store(27, 0xfff2); /* the upper bits are not read */
+    profile_sample(1003, 0x0240, SOAK_2 - 5 + 2 + SOAK_4 + 1);
+    check_profile(2, 1, 0, 0, 500);
+
+    /* Cascade: 800 counts up by 2.50; a command waits there, with bit 11 off too */
+    store(0, 4 | 2048), store(26, 600), store(600, 200), store(27, 4);
+    profile_sample(200, 0x0004, SOAK_2 - 5 + 320 + SOAK_4 + 1);
+    store(0, 0);
+    profile_sample(200, 0x0004, 0);
+    check_profile(2, 1, 0, 0, 500);
+    store(0, 2 | 2048);
+    profile_sample(200, 0x0220, SOAK_2 - 5 + 320 + SOAK_4 + 1); /* 800 apart, and 40 allowed */
+    check_profile(2, 0, 0, 0, 500);
+    words[KEXBARDI_MODE_1] = 4 | 2048, words[KEXBARDI_SETPOINT] = 5000; /* above full scale, in Cascade alone */
+    records[KEXBARDI_FIELD_SEGMENT] = 1;
+    forecast_is(1, 1330 + SOAK_2 + RAMP_3 + SOAK_4 + 1);
+    words[KEXBARDI_MODE_1] = 2 | 2048;
+    equals("outside Cascade", forecast(1), 8);
+}
+
+/* One sample of the profile above, from a record of the caller's own making: mode 1, word 27, word 2 and PV, the record's last
+ * five numbers; then word 2, word 27 and the five numbers behind it. The carried mode is Automatic, or Manual where Automatic is
+ * requested. */
+struct step {
+    const char *name;
+    uint16_t mode_1, command, setpoint, pv;
+    int64_t five[5];
+    uint16_t moved, flags;
+    int64_t left[5];
+};
+
+static const struct step steps[] = {
+    {"a ramp counts no time", 2048, 0, 1000, 1000, {1, 0, 0, 0, 777}, 1003, 0x0100, {1, 0, 0, 0, 777}},
+    {"a ramp's end", 2048, 0, 1009, 1000, {1, 0, 0, 5000, 777}, 1010, 0x0200, {2, 0, 0, 0, 0}},
+    {"a ramp at its end", 2048, 0, 1000, 1000, {3, 0, 0, 0, 9}, 1000, 0x0400, {4, 0, 0, 0, 0}},
+    {"a fraction above its end", 2048, 0, 1000, 1000, {3, 0, 0, 1, 9}, 1000, 0x0400, {4, 0, 0, 0, 0}},
+    {"down to a fraction", 2048, 0, 1010, 1000, {3, 0, 0, 1, 0}, 1007, 0x0300, {3, 0, 0, 5001, 0}},
+    {"the highest time", 2048, 0, 1000, 1000, {2, 0, 0, 7, 6000000}, 1000, 0x0300, {3, 0, 0, 7, 0}},
+    {"a duration covered", 2048, 0, 1000, 1000, {2, 0, 0, 7, 1100}, 1000, 0x0300, {3, 0, 0, 7, 0}},
+    {"a hundredth short", 2048, 0, 1000, 1000, {2, 0, 0, 7, 1099}, 1000, 0x0200, {2, 0, 0, 7, 1199}},
+    {"the end of segment 16", 2048, 0, 1000, 1000, {16, 0, 0, 77, 400}, 1000, 0x0010, {0, 0, 1, 77, 0}},
+    {"slope 0", 2048, 0, 1000, 1000, {5, 0, 0, 77, 300}, 1000, 0x0010, {0, 0, 1, 77, 0}},
+    {"slope 0, held", 2048, 0, 1000, 1000, {5, 1, 0, 77, 300}, 1000, 0x0540, {5, 1, 0, 77, 300}},
+    {"slope 0, Jog", 2048, 8, 1000, 1000, {5, 0, 0, 77, 300}, 1000, 0x0600, {6, 0, 0, 77, 0}},
+    {"Jog in a soak", 2048, 8, 1000, 1000, {2, 0, 0, 77, 500}, 1000, 0x0300, {3, 0, 0, 77, 0}},
+    {"Jog in segment 16, held", 2048, 8, 1000, 1000, {16, 1, 0, 77, 500}, 1000, 0x0010, {0, 0, 1, 77, 0}},
+    {"Start after the end", 2048, 1, 1000, 1000, {0, 0, 1, 77, 9}, 1000, 0x0100, {1, 0, 0, 0, 0}},
+    {"Hold without a profile", 2048, 2, 1000, 1000, {0, 0, 1, 77, 9}, 1000, 0x0010, {0, 0, 1, 77, 9}},
+    {"Resume without a profile", 2048, 4, 1000, 1000, {0, 0, 1, 77, 9}, 1000, 0x0010, {0, 0, 1, 77, 9}},
+    {"Jog without a profile", 2048, 8, 1000, 1000, {0, 0, 1, 77, 9}, 1000, 0x0010, {0, 0, 1, 77, 9}},
+    {"Resume without a hold", 2048, 4, 1000, 1000, {3, 0, 0, 0, 9}, 1000, 0x0300, {3, 0, 0, 0, 9}},
+    {"Start before the others", 2048, 15, 1000, 1000, {3, 1, 0, 77, 9}, 1000, 0x0100, {1, 0, 0, 0, 0}},
+    {"Hold before Resume and Jog", 2048, 14, 1000, 1000, {3, 0, 0, 77, 9}, 1000, 0x0340, {3, 1, 0, 77, 9}},
+    {"Resume before Jog", 2048, 12, 1000, 1000, {3, 1, 0, 77, 9}, 1000, 0x0300, {3, 0, 0, 77, 9}},
+    {"bits 4 to 15 of word 27", 2048, 0xfff0, 1000, 1000, {2, 1, 0, 77, 9}, 1000, 0x0240, {2, 1, 0, 77, 9}},
+    {"40 apart", 2048, 0, 1000, 1040, {2, 1, 0, 77, 9}, 1000, 0x0240, {2, 1, 0, 77, 9}},
+    {"41 apart, held", 2048, 0, 1000, 1041, {2, 1, 0, 77, 9}, 1000, 0x0260, {2, 1, 0, 77, 9}},
+    {"far apart in a ramp", 2048, 0, 1000, 100, {1, 0, 0, 0, 9}, 1003, 0x0100, {1, 0, 0, 0, 9}},
+    {"bit 11 off", 0, 1, 1000, 1000, {3, 1, 1, 77, 9}, 1000, 0x0000, {0, 0, 0, 77, 9}},
+    {"an entry with a profile", 2 | 2048, 0, 1000, 900, {1, 0, 0, 0, 9}, 1003, 0x0100, {1, 0, 0, 0, 9}},
+    {"an entry with a held one", 2 | 2048, 0, 1000, 900, {1, 1, 0, 77, 9}, 1000, 0x0140, {1, 1, 0, 77, 9}},
+    {"an entry with none", 2 | 2048, 0, 1000, 900, {0, 0, 1, 77, 9}, 900, 0x0010, {0, 0, 1, 77, 9}},
+    {"an entry and Start", 2 | 2048, 1, 1000, 900, {0, 0, 0, 77, 9}, 900, 0x0100, {1, 0, 0, 0, 0}},
+    {"an entry and Start again", 2 | 2048, 1, 1000, 900, {3, 0, 0, 77, 9}, 1000, 0x0100, {1, 0, 0, 0, 0}},
+    {"an entry, bit 11 off", 2, 0, 1000, 900, {1, 0, 0, 77, 9}, 900, 0x0000, {0, 0, 0, 77, 9}},
+};
+
+static void profile_steps(void) {
+    for (size_t n = 0; n < sizeof steps / sizeof *steps; n++) {
+        const struct step *c = &steps[n];
+        begin_profile(c->name);
+        words[KEXBARDI_MODE_1] = c->mode_1, words[KEXBARDI_PROFILE_FLAGS] = c->command, words[KEXBARDI_SETPOINT] = c->setpoint;
+        words[KEXBARDI_PROFILE_FAULT] = 2; /* an address that was mended since */
+        records[KEXBARDI_FIELD_MODE] = c->mode_1 & 2 ? 0 : 1, records[KEXBARDI_FIELD_SAMPLED] = 1;
+        memcpy(records + KEXBARDI_FIELD_SEGMENT, c->five, sizeof c->five);
+        equals("sample", sample(1, c->pv), 0);
+        equals("setpoint", words[KEXBARDI_SETPOINT], c->moved);
+        equals("word 27", words[KEXBARDI_PROFILE_FLAGS], c->flags);
+        check_profile(c->left[0], c->left[1], c->left[2], c->left[3], c->left[4]);
+        equals("last error", fields[KEXBARDI_FIELD_ERROR], (int64_t)c->moved - c->pv); /* of the setpoint that has moved */
+    }
+}
+
+/* Where no profile runs the forecast is 0. */
+static void no_profile(void) {
+    begin_profile("no profile");
+    profile_sample(1000, 0x0100, WHOLE);
+    const struct lent kept = lent;
+    words[KEXBARDI_MODE_1] = 0;
+    forecast_is(1, 0);
+    profile_sample(1000, 0x0000, 0);
+    lent = kept;
+    words[KEXBARDI_PROFILE_TABLE] = 511;
+    forecast_is(1, 0);
+    profile_sample(1000, 0x0000, 0);
+    equals("word 29", words[KEXBARDI_PROFILE_FAULT], KEXBARDI_FAULT_BELOW);
+    lent = kept;
+    words[KEXBARDI_PROFILE_TABLE] = 993;
+    forecast_is(1, 0);
+    profile_sample(1000, 0x0000, 0);
+    equals("word 29", words[KEXBARDI_PROFILE_FAULT], KEXBARDI_FAULT_ABOVE);
+    lent = kept;
+    records[KEXBARDI_FIELD_SEGMENT] = 0;
+    forecast_is(1, 0);
+}
+
+/* 16 bits, periods of 0.05 s, slopes of 0.01: 65,535 counts are 131,070,000 samples. With soaks of 999.9 minutes, 1,199,880
+ * samples each, eight times up or down: computed at once. */
+static void longest_profile(void) {
+    begin_loop_a("the longest profile");
+    store(1, 512), store(7, 0x0005), store(0, 1 | 2048), store(28, 992), store(27, 1);
+    for (unsigned n = 0; n < 8; n++) {
+        store(992 + 4 * n, n % 2 ? 0 : 65535), store(993 + 4 * n, 0x0001);
+        store(994 + 4 * n, 0x9999), store(995 + 4 * n, 65535);
+    }
+    equals("start", sample(1, 0), 0);
+    forecast_is(1, INT64_C(8) * (131070000 + 1199880));
+    for (int n = 0; n < 3; n++) equals("sample", sample(1, 0), 0);
+    check_profile(1, 0, 0, 15, 0);
+    forecast_is(1, INT64_C(8) * (131070000 + 1199880) - 3);
+}
+
+/* N7, N8: every word of a table that a sample reads, in each mode, whether a profile runs or not; and none where bit 11 is
+ * off or the address is a fault. A ramp's slope and a soak's duration are BCD; a deviation may be anything. */
+static void table_word(unsigned table, unsigned at, unsigned mode_1) {
+    const unsigned address = table + at, kind = at % 4;
+    const uint16_t good = words[address];
+    const int there = (mode_1 & 2048) && table >= 512 && table <= 992;
+    const struct lent kept = lent;
+    words[KEXBARDI_MODE_1] = (uint16_t)mode_1, words[KEXBARDI_PROFILE_TABLE] = (uint16_t)table;
+    const struct lent set_up = lent;
+    for (unsigned bad = 0; bad < 4; bad++) {
+        words[address] = (uint16_t)(10u << 4 * bad);
+        uint8_t answer = there && (kind == 1 || kind == 2) ? 7 : there && kind == 0 && words[address] > 4095 ? 8 : 0;
+        equals("forecast, 10 as a digit", forecast(1), answer);
+        equals("sample, 10 as a digit", sample(1, 1000), answer);
+        lent = set_up;
+    }
+    words[address] = kind == 0 ? 4095 : 0x9999;
+    equals("forecast, the highest", forecast(1), 0);
+    words[address] = 4096; /* 10.00, or 100.0 minutes */
+    equals("forecast, above full scale", forecast(1), there && kind == 0 ? 8 : 0);
+    words[KEXBARDI_GAIN] = 0x000a;
+    equals("forecast, 7 before 8", forecast(1), 7);
+    lent = kept;
+    equals("the word", words[address], good);
+}
+
+static void table_words(void) {
+    static const uint16_t tables[] = {512, 700, 991, 992, 511}, modes[] = {1, 2, 4, 1 | 2048, 2 | 2048, 4 | 2048};
+    for (size_t n = 0; n < sizeof tables / sizeof *tables; n++)
+        for (int m = 0; m < 6; m++) {
+            begin_loop_a("words of a table");
+            store(26, 45); /* of loop 2, and 0 */
+            for (unsigned at = tables[n] == 511; at < 32; at++) table_word(tables[n], at, modes[m]);
+        }
 }
 
 /* ---- records of the caller's own making: what no drill file can show */
@@ -817,7 +1099,7 @@ static void bias_words(void) {
 /* ---- records of garbage */
 
 static const int64_t ranges[KEXBARDI_FIELDS][2] = {{0, 2}, {-((int64_t)1 << 52), (int64_t)1 << 52}, {0, 65535 * (int64_t)262144},
-    {0, 65535}, {0, 65535}, {-65535, 65535}, {0, 1}, {0, 1}};
+    {0, 65535}, {0, 65535}, {-65535, 65535}, {0, 1}, {0, 1}, {0, 16}, {0, 1}, {0, 1}, {0, 9999}, {0, 6000000}};
 
 /* One number of a loop's record takes a value out of its range: every call that reads the record is refused, and every
  * number stays. */
@@ -825,8 +1107,10 @@ static void number_refused(unsigned loop) {
     const struct lent kept = lent;
     equals("record", record(loop), 5);
     equals("sample", sample(loop, 1000), 5);
+    equals("forecast", forecast(loop), 5);
     words[KEXBARDI_ADDRESS(loop, KEXBARDI_GAIN)] = 0xffff;
     equals("5 before 7, 8 and 9", sample(loop, 65535), 5);
+    equals("forecast: 5 before 7", forecast(loop), 5);
     size = 0, file_sample(loop, 1000), file_store(700, 9);
     equals("run", run(ANSWERS), 0);
     equals("a sample in a file", answers[0], 5);
@@ -843,6 +1127,7 @@ static void number_at(unsigned loop, int field, int64_t value) {
     else {
         equals("record", record(loop), 0);
         equals("a number as it stands", fields[field], value);
+        equals("forecast", forecast(loop), 0);
         equals("sample", sample(loop, 1000), 0);
         equals("record afterwards", record(loop), 0);
     }
@@ -873,7 +1158,9 @@ static void garbage_neighbour(void) {
     settle(2), settle(3);
     records[2 * KEXBARDI_FIELDS + KEXBARDI_FIELD_ERROR] = 65536;
     equals("loop 3", sample(3, 1000), 5);
+    equals("forecast of loop 3", forecast(3), 5);
     equals("loop 2", sample(2, 1000), 0);
+    equals("forecast of loop 2", forecast(2), 0);
     equals("record 2", record(2), 0);
     size = 0, file_sample(3, 1000), file_sample(2, 1000), file_sample(4, 1000);
     equals("run", run(ANSWERS), 0);
@@ -904,18 +1191,22 @@ static void garbage_desks(void) {
 
 /* ---- loops alike */
 
-/* Nine samples of a loop in every mode and form, with alarms, a store before each; the lines go to `lines`. */
-static void same_calls(unsigned loop, uint16_t lines[9][4]) {
-    static const uint16_t calls[9][3] = {/* offset, value, raw PV */
+/* Thirteen samples of a loop in every mode and form, with alarms and a profile, a store before each; the lines go to
+ * `lines`. */
+static void same_calls(unsigned loop, uint16_t lines[13][4]) {
+    static const uint16_t calls[13][3] = {/* offset, value, raw PV */
         {KEXBARDI_RATE, 0x0050, 1000}, {KEXBARDI_SETPOINT, 1500, 1010}, {KEXBARDI_MODE_1, 0x7000 | 4, 1100},
         {KEXBARDI_MODE_1, 0x7000 | 32, 1200}, {KEXBARDI_SETPOINT, 900, 1300}, {KEXBARDI_MODE_1, 0x7000 | 1, 3000},
-        {KEXBARDI_OUTPUT, 700, 2900}, {KEXBARDI_MODE_1, 0x7000 | 2 | 8 | 16, 2500}, {KEXBARDI_GAIN, 0x0033, 0}};
+        {KEXBARDI_OUTPUT, 700, 2900}, {KEXBARDI_MODE_1, 0x7000 | 2 | 8 | 16, 2500}, {KEXBARDI_GAIN, 0x0033, 0},
+        {KEXBARDI_MODE_1, 0x7800 | 8 | 16, 100}, {KEXBARDI_PROFILE_FLAGS, 1, 150}, {KEXBARDI_CHANGE, 20, 200},
+        {KEXBARDI_PROFILE_FLAGS, 8, 250}};
     settle(loop);
     for (unsigned n = 0; n < 4; n++) store(KEXBARDI_ADDRESS(loop, KEXBARDI_LOW_LOW + n), 800 * (n + 1));
     store(KEXBARDI_ADDRESS(loop, KEXBARDI_YELLOW), 100), store(KEXBARDI_ADDRESS(loop, KEXBARDI_RED), 300);
     store(KEXBARDI_ADDRESS(loop, KEXBARDI_HYSTERESIS), 10), store(KEXBARDI_ADDRESS(loop, KEXBARDI_CHANGE), 50);
     store(KEXBARDI_ADDRESS(loop, KEXBARDI_POINTER), 600), store(600, 1234);
-    for (int n = 0; n < 9; n++) {
+    store(KEXBARDI_ADDRESS(loop, KEXBARDI_PROFILE_TABLE), 700), store(700, 4000), store(701, 0x1234), store(702, 3), store(703, 9);
+    for (int n = 0; n < 13; n++) {
         equals("store", store(KEXBARDI_ADDRESS(loop, calls[n][0]), calls[n][1]), 0);
         equals("sample", sample(loop, calls[n][2]), 0);
         memcpy(lines[n], line, 4 * sizeof *line);
@@ -924,11 +1215,13 @@ static void same_calls(unsigned loop, uint16_t lines[9][4]) {
 
 /* Every loop gives the lines, words and record of loop 1, and loop 1 is not touched meanwhile. */
 static void alike(void) {
-    static uint16_t first[9][4], lines[9][4];
+    static uint16_t first[13][4], lines[13][4];
     begin("loops alike");
     same_calls(1, first);
+    forecast_is(1, 18 + 1); /* 0.3 minutes, and slope 0 */
     for (unsigned loop = 2; loop <= KEXBARDI_LOOPS; loop++) {
         same_calls(loop, lines);
+        forecast_is(loop, 18 + 1);
         check("lines", memcmp(lines, first, sizeof first) == 0);
         check("words", memcmp(words + KEXBARDI_ADDRESS(loop, 0), words, KEXBARDI_LOOP_WORDS * sizeof *words) == 0);
         check("record", memcmp(records + KEXBARDI_FIELDS * (loop - 1), records, KEXBARDI_FIELDS * sizeof *records) == 0);
@@ -1140,6 +1433,12 @@ int main(void) {
     settings_refused();
     raw_above();
     wide();
+    profile_run();
+    profile_commands();
+    profile_steps();
+    no_profile();
+    longest_profile();
+    table_words();
     lent_ends();
     first_samples();
     change_alarms();

@@ -15,6 +15,7 @@ static uint16_t words[4096], line[64];
 static int64_t records[1024], fields[64];
 static uint8_t answers[64], long_file[150000], out[2000000];
 static size_t count, refused, text_length;
+static uint64_t left; /* samples, of a forecast */
 
 static unsigned passed, failed;
 static const char *test = "";
@@ -34,10 +35,10 @@ static void check(const char *what, int holds) {
 /* ---- a desk and loop A, in plain numbers */
 
 static uint8_t store(uint64_t address, unsigned value) {
-    return kexbardi_store(words, 1024, records, 128, address, (uint16_t)value);
+    return kexbardi_store(words, 1024, records, 208, address, (uint16_t)value);
 }
 
-static uint8_t sample(uint64_t loop, uint64_t raw) { return kexbardi_sample(words, 1024, records, 128, loop, raw, line); }
+static uint8_t sample(uint64_t loop, uint64_t raw) { return kexbardi_sample(words, 1024, records, 208, loop, raw, line); }
 
 /* A word of the desk; -1 where the address has none. */
 static int64_t word(int64_t address) { return address >= 0 && address < 1024 ? words[address] : -1; }
@@ -48,7 +49,7 @@ static void begin(const char *name) {
     memset(records, 0xa5, sizeof records);
     memset(line, 0xa5, sizeof line);
     memset(fields, 0xa5, sizeof fields);
-    equals("reset", kexbardi_reset(words, 1024, records, 128), 0);
+    equals("reset", kexbardi_reset(words, 1024, records, 208), 0);
 }
 
 /* A store that has to be accepted. */
@@ -96,15 +97,15 @@ static void status_of(uint64_t raw, unsigned status) {
     equals("status", line[3], status);
 }
 
-static void take_record(void) { equals("record", kexbardi_record(records, 128, 1, fields), 0); }
+static void take_record(void) { equals("record", kexbardi_record(records, 208, 1, fields), 0); }
 
 /* ---- versions */
 
-/* Header and archive are of one version. Saves of 1.0.0 and later may be loaded: the engine has no say in it. */
+/* Header and archive are of one version. Saves of 4.0.0 and later may be loaded: the engine has no say in it. */
 static void versions(void) {
     test = "versions";
     equals("KEXBARDI_VERSION", KEXBARDI_VERSION, kexbardi_version());
-    equals("KEXBARDI_OLDEST_SAVE", KEXBARDI_OLDEST_SAVE, 10000);
+    equals("KEXBARDI_OLDEST_SAVE", KEXBARDI_OLDEST_SAVE, 40000);
     check("the oldest save is not above the version", KEXBARDI_OLDEST_SAVE <= KEXBARDI_VERSION);
     equals("the major number of 3.0.0", KEXBARDI_MAJOR(30000), 3);
     equals("the major number of 3.99.99", KEXBARDI_MAJOR(39999), 3);
@@ -117,15 +118,15 @@ static void versions(void) {
 /* W1, N5, N6: the words have this length and no other; the last address is one below it. */
 static void desk_words(void) {
     begin("KEXBARDI_WORDS");
-    equals("the length", kexbardi_reset(words, KEXBARDI_WORDS, records, 128), 0);
-    equals("one less", kexbardi_reset(words, KEXBARDI_WORDS - 1, records, 128), 5);
-    equals("one more", kexbardi_reset(words, KEXBARDI_WORDS + 1, records, 128), 5);
+    equals("the length", kexbardi_reset(words, KEXBARDI_WORDS, records, 208), 0);
+    equals("one less", kexbardi_reset(words, KEXBARDI_WORDS - 1, records, 208), 5);
+    equals("one more", kexbardi_reset(words, KEXBARDI_WORDS + 1, records, 208), 5);
     equals("store in the last word", store(KEXBARDI_WORDS - 1, 77), 0);
     equals("word 1,023", word(1023), 77);
     equals("store behind it", store(KEXBARDI_WORDS, 77), 6);
 }
 
-/* H4, N5: the records have this length and no other, sixteen of eight numbers. */
+/* H4, N5: the records have this length and no other, sixteen of thirteen numbers. */
 static void desk_numbers(void) {
     begin("KEXBARDI_NUMBERS");
     equals("the length", kexbardi_reset(words, 1024, records, KEXBARDI_NUMBERS), 0);
@@ -141,9 +142,9 @@ static void loops(void) {
     settle(480); /* 32 x 15 */
     equals("the last loop", sample(KEXBARDI_LOOPS, 1000), 0);
     equals("its PV", word(483), 1000);
-    equals("its record", kexbardi_record(records, 128, KEXBARDI_LOOPS, fields), 0);
+    equals("its record", kexbardi_record(records, 208, KEXBARDI_LOOPS, fields), 0);
     equals("the one behind it", sample(KEXBARDI_LOOPS + 1, 1000), 4);
-    equals("the record behind it", kexbardi_record(records, 128, KEXBARDI_LOOPS + 1, fields), 4);
+    equals("the record behind it", kexbardi_record(records, 208, KEXBARDI_LOOPS + 1, fields), 4);
 }
 
 /* W1, N6: word 3 of each table is the engine's, and so are no words behind the tables. */
@@ -162,9 +163,10 @@ static void record_numbers(void) {
     settle(32);
     equals("loop 2", sample(2, 1000), 0);
     equals("its last PV", records[KEXBARDI_FIELDS + 3], 1000);
+    records[25] = 600; /* 13 + 12, the time of loop 2 */
     fields[KEXBARDI_FIELDS - 1] = fields[KEXBARDI_FIELDS] = -77;
-    equals("record", kexbardi_record(records, 128, 2, fields), 0);
-    equals("the last number", fields[KEXBARDI_FIELDS - 1], 1);
+    equals("record", kexbardi_record(records, 208, 2, fields), 0);
+    equals("the last number", fields[KEXBARDI_FIELDS - 1], 600);
     equals("the one behind it", fields[KEXBARDI_FIELDS], -77);
 }
 
@@ -395,7 +397,7 @@ struct bit {
  * PV_ALARMS      PV 150 is below low: e = 1,350, 2,000 + 2,700 is above 4,095, at the limit
  * DEVIATION      500 is above 400
  * RATE_ALARM     100 is above 99: e = 400, 2,000 + 800 + 80
- * Freeze and Bumpless II change nothing here; they have tests of their own. */
+ * Freeze, Bumpless II and, without a table, the profile change nothing here; they have tests of their own. */
 static const struct bit bits[] = {
     {"KEXBARDI_M1_MANUAL", KEXBARDI_M1_MANUAL, 0x0001, 1000, 1500, 1000, 2000, 0x0001},
     {"KEXBARDI_M1_AUTOMATIC", KEXBARDI_M1_AUTOMATIC, 0x0002, 1000, 1500, 1000, 3100, 0x0002},
@@ -407,6 +409,7 @@ static const struct bit bits[] = {
     {"KEXBARDI_M1_SQUARED", KEXBARDI_M1_SQUARED, 0x0080, 1000, 1500, 1000, 2134, 0x0002},
     {"KEXBARDI_M1_DEADBAND", KEXBARDI_M1_DEADBAND, 0x0100, 1000, 1500, 1000, 2000, 0x0002},
     {"KEXBARDI_M1_FREEZE", KEXBARDI_M1_FREEZE, 0x0400, 1000, 1500, 1000, 3100, 0x0002},
+    {"KEXBARDI_M1_PROFILE", KEXBARDI_M1_PROFILE, 0x0800, 1000, 1500, 1000, 3100, 0x0002},
     {"KEXBARDI_M1_PV_ALARMS", KEXBARDI_M1_PV_ALARMS, 0x1000, 150, 1500, 150, 4095, 0x0812},
     {"KEXBARDI_M1_DEVIATION_ALARMS", KEXBARDI_M1_DEVIATION_ALARMS, 0x2000, 1000, 1500, 1000, 3100, 0x0082},
     {"KEXBARDI_M1_RATE_ALARM", KEXBARDI_M1_RATE_ALARM, 0x4000, 1100, 1500, 1100, 2880, 0x0202},
@@ -495,6 +498,253 @@ static void formats(void) {
     format("16 bits prevail", KEXBARDI_M2_FIFTEEN_BITS | KEXBARDI_M2_SIXTEEN_BITS, 0x0202, KEXBARDI_FULL_16, 65535);
 }
 
+/* ---- profiles */
+
+/* Loop A in Manual with setpoint 1,000 and bit 11, its period 1.00 s, and a table at an address, in plain numbers: up to
+ * 1,010 by 2.50 a second, 0.1 minutes within 40, down to 1,000 by 4.00, 0.2 minutes. */
+static void begin_table(const char *name, unsigned table) {
+    static const uint16_t ramps_and_soaks[8] = {1010, 0x0250, 0x0001, 40, 1000, 0x0400, 0x0002, 0};
+    begin_loop_a(name);
+    put(0, 0x0801), put(2, 1000), put(28, table);
+    for (unsigned n = 0; n < 8; n++) put(table + n, ramps_and_soaks[n]);
+}
+
+/* A sample with PV 1,000, the setpoint and word 27 behind it. */
+static void moved(unsigned setpoint, unsigned flags) {
+    equals("sample", sample(1, 1000), 0);
+    equals("setpoint", word(2), setpoint);
+    equals("word 27", word(27), flags);
+}
+
+/* The same table, and the profile is started. */
+static void begin_profile(const char *name) {
+    begin_table(name, 512);
+    put(27, 0x0001);
+    moved(1000, 0x0100);
+}
+
+/* G5, G9: on to a segment, by Jog. */
+static void jog_to(unsigned segment) {
+    for (unsigned n = 2; n <= segment; n++) {
+        put(27, 0x0008);
+        moved(1000, 256 * n);
+    }
+}
+
+/* W2, G2 to G4: the three words of a loop, and the bit. */
+static void profile_words(void) {
+    begin_table("KEXBARDI_PROFILE_FLAGS", 512);
+    set(KEXBARDI_PROFILE_FLAGS, 0x0001);
+    moved(1000, 0x0100);
+    equals("the word", word(KEXBARDI_ADDRESS(1, KEXBARDI_PROFILE_FLAGS)), 0x0100);
+    moved(1002, 0x0100);
+    begin_table("KEXBARDI_PROFILE_TABLE", 700);
+    put(28, 0);
+    set(KEXBARDI_PROFILE_TABLE, 700);
+    put(27, 0x0001);
+    moved(1000, 0x0100);
+    moved(1002, 0x0100);
+    begin_table("KEXBARDI_PROFILE_FAULT", 512);
+    put(28, 511);
+    moved(1000, 0x0000);
+    equals("the word", word(KEXBARDI_ADDRESS(1, KEXBARDI_PROFILE_FAULT)), 1);
+    equals("a store of it", store(KEXBARDI_ADDRESS(1, KEXBARDI_PROFILE_FAULT), 0), 6);
+    begin_table("KEXBARDI_M1_PROFILE", 512);
+    put(0, KEXBARDI_M1_PROFILE);
+    put(27, 0x0001);
+    moved(1000, 0x0100);
+    moved(1002, 0x0100);
+    put(0, 0x0c00 & ~KEXBARDI_M1_PROFILE); /* freeze is left */
+    moved(1002, 0x0000);
+    equals("mode 1", word(0), 0x0400);
+}
+
+/* G2: the lowest and the highest address of a table, and the faults of those beyond. */
+static void table_at(const char *name, unsigned address, int64_t fault) {
+    begin_table(name, 512);
+    put(28, address);
+    equals("sample", sample(1, 1000), 0);
+    equals("word 29", word(29), fault);
+}
+
+static void table_addresses(void) {
+    table_at("KEXBARDI_TABLE_FIRST", KEXBARDI_TABLE_FIRST, 0);
+    table_at("one below KEXBARDI_TABLE_FIRST", KEXBARDI_TABLE_FIRST - 1, 1);
+    table_at("KEXBARDI_TABLE_LAST", KEXBARDI_TABLE_LAST, 0);
+    table_at("one above KEXBARDI_TABLE_LAST", KEXBARDI_TABLE_LAST + 1, 2);
+    table_at("KEXBARDI_FAULT_BELOW", 511, KEXBARDI_FAULT_BELOW);
+    table_at("KEXBARDI_FAULT_ABOVE", 993, KEXBARDI_FAULT_ABOVE);
+    equals("the last table ends with the words", KEXBARDI_TABLE_LAST + KEXBARDI_TABLE_WORDS, 1024);
+}
+
+/* G1, G10: the last word of a table is the deviation of segment 16, whose duration, 0.1 minutes, stands before it. Of the
+ * next table, full of what is no BCD, no word is read. */
+static void table_words(void) {
+    begin_profile("KEXBARDI_TABLE_WORDS");
+    put(542, 0x0001);
+    put(512 + KEXBARDI_TABLE_WORDS - 1, 9);
+    for (unsigned n = 0; n < 32; n++) put(512 + KEXBARDI_TABLE_WORDS + n, 0xffff);
+    jog_to(16);
+    equals("PV 1,009", sample(1, 1009), 0);
+    equals("word 27", word(27), 0x1000);
+    equals("PV 1,010", sample(1, 1010), 0);
+    equals("word 27", word(27), 0x1020);
+}
+
+/* G9: so many segments, and a Jog in the last completes the profile. */
+static void segments(void) {
+    begin_profile("KEXBARDI_SEGMENTS");
+    jog_to(KEXBARDI_SEGMENTS);
+    take_record();
+    equals("the segment", fields[8], 16);
+    put(27, 0x0008);
+    moved(1000, 0x0010);
+    equals("two words for each", 2 * KEXBARDI_SEGMENTS, 32);
+}
+
+/* G1: 2 x (n - 1); the argument may be an expression, and so may what the macro stands in. */
+static const char place_4[KEXBARDI_SEGMENT(3)] = "";
+
+static void segment_places(void) {
+    const int third = 1;
+    test = "KEXBARDI_SEGMENT";
+    equals("in a constant expression", (int64_t)sizeof place_4, 4);
+    equals("1", KEXBARDI_SEGMENT(1), 0);
+    equals("2", KEXBARDI_SEGMENT(2), 2);
+    equals("16", KEXBARDI_SEGMENT(16), 30);
+    equals("of a sum", KEXBARDI_SEGMENT(1 + 2), 4);
+    equals("of a choice", KEXBARDI_SEGMENT(third ? 3 : 4), 4);
+    equals("in a quotient", 100 / KEXBARDI_SEGMENT(3), 25);
+    equals("in a difference", 100 - KEXBARDI_SEGMENT(3), 96);
+}
+
+/* G7, G8: the words of a ramp and a soak at their places in an empty table. Segment 1 takes 4 samples, segment 2 lasts 6. */
+static void segment_words(void) {
+    begin_loop_a("a ramp and a soak");
+    put(0, 0x0801), put(2, 1000), put(28, 512), put(27, 0x0001);
+    put(512 + KEXBARDI_END, 1010);
+    put(512 + KEXBARDI_SLOPE, 0x0250);
+    put(514 + KEXBARDI_DURATION, 0x0001);
+    put(514 + KEXBARDI_DEVIATION, 9);
+    equals("KEXBARDI_END", word(512), 1010);
+    equals("KEXBARDI_SLOPE", word(513), 0x0250);
+    equals("KEXBARDI_DURATION", word(514), 1);
+    equals("KEXBARDI_DEVIATION", word(515), 9);
+    moved(1000, 0x0100);
+    moved(1002, 0x0100);
+    moved(1005, 0x0100);
+    moved(1007, 0x0100);
+    moved(1010, 0x0220);
+    for (int n = 0; n < 5; n++) moved(1010, 0x0220);
+    moved(1010, 0x0300);
+    moved(1010, 0x0010); /* its slope is 0 */
+
+    /* the same for segments 15 and 16 */
+    begin_profile("KEXBARDI_SEGMENT of the last two");
+    put(512 + KEXBARDI_SEGMENT(15) + KEXBARDI_END, 1005);
+    put(512 + KEXBARDI_SEGMENT(15) + KEXBARDI_SLOPE, 0x0300);
+    put(512 + KEXBARDI_SEGMENT(16) + KEXBARDI_DURATION, 0x0001);
+    put(512 + KEXBARDI_SEGMENT(16) + KEXBARDI_DEVIATION, 4);
+    jog_to(15);
+    moved(1003, 0x0f00);
+    moved(1005, 0x1020);
+    for (int n = 0; n < 5; n++) moved(1005, 0x1020);
+    moved(1005, 0x0010);
+}
+
+struct command {
+    const char *name;
+    enum kexbardi_profile_flags bit;
+    uint16_t mask, held_before, flags, next_setpoint, next_flags;
+};
+
+/* G5, G6: a command to a profile that is in segment 1 at 1,002.5, not held or held; word 27 after it, and what the sample
+ * behind it does. */
+static const struct command commands[] = {
+    {"KEXBARDI_P_START", KEXBARDI_P_START, 0x0001, 0, 0x0100, 1004, 0x0100}, /* the fraction is gone: 1,002 + 2.5 */
+    {"KEXBARDI_P_START, held", KEXBARDI_P_START, 0x0001, 1, 0x0100, 1004, 0x0100},
+    {"KEXBARDI_P_HOLD", KEXBARDI_P_HOLD, 0x0002, 0, 0x0140, 1002, 0x0140},
+    {"KEXBARDI_P_RESUME", KEXBARDI_P_RESUME, 0x0004, 1, 0x0100, 1005, 0x0100},
+    {"KEXBARDI_P_JOG", KEXBARDI_P_JOG, 0x0008, 0, 0x0200, 1002, 0x0200},
+    {"KEXBARDI_P_JOG, held", KEXBARDI_P_JOG, 0x0008, 1, 0x0240, 1002, 0x0240},
+};
+
+static void profile_commands(void) {
+    for (size_t n = 0; n < sizeof commands / sizeof *commands; n++) {
+        const struct command *c = &commands[n];
+        begin_profile(c->name);
+        moved(1002, 0x0100);
+        if (c->held_before) put(27, 0x0002), moved(1002, 0x0140);
+        set(KEXBARDI_PROFILE_FLAGS, c->bit);
+        equals("word 27 as it is stored", word(27), c->mask);
+        moved(1002, c->flags);
+        moved(c->next_setpoint, c->next_flags);
+    }
+}
+
+/* G10: each of the three bits is what comes into word 27. */
+static void profile_flags(void) {
+    begin_profile("KEXBARDI_P_HELD");
+    put(27, 0x0002);
+    moved(1000, 0x0140);
+    equals("its bit is what has come", 0x0100 ^ word(27), KEXBARDI_P_HELD);
+    begin_profile("KEXBARDI_P_DEVIATION");
+    jog_to(2);
+    equals("PV 960", sample(1, 960), 0);
+    equals("word 27", word(27), 0x0200);
+    equals("PV 959", sample(1, 959), 0);
+    equals("word 27", word(27), 0x0220);
+    equals("its bit is what has come", 0x0200 ^ word(27), KEXBARDI_P_DEVIATION);
+    begin_profile("KEXBARDI_P_COMPLETE");
+    jog_to(5);
+    moved(1000, 0x0010);
+    equals("its bit alone is on", word(27), KEXBARDI_P_COMPLETE);
+}
+
+/* G10: the segment is the upper byte; the argument may be an expression, and the macro stand in one. */
+static void segment_of_flags(void) {
+    const int16_t garbage = -1;
+    const unsigned base = 0x0200;
+    begin_profile("KEXBARDI_P_SEGMENT");
+    for (unsigned n = 1; n <= 16; n++) {
+        if (n > 1) put(27, 0x0008), moved(1000, 256 * n);
+        equals("the segment", KEXBARDI_P_SEGMENT(words[27]), n);
+    }
+    put(27, 0x0008);
+    moved(1000, 0x0010);
+    equals("no segment", KEXBARDI_P_SEGMENT(words[27]), 0);
+    equals("with all flags", KEXBARDI_P_SEGMENT(0x0fff), 15);
+    equals("with none", KEXBARDI_P_SEGMENT(0x1000), 16);
+    equals("of a sum", KEXBARDI_P_SEGMENT(base + 0x0100), 3);
+    equals("of two bits", KEXBARDI_P_SEGMENT(base | 0x0100), 3);
+    equals("in a quotient", 100 / KEXBARDI_P_SEGMENT(0x0300), 33);
+    equals("of a signed word", KEXBARDI_P_SEGMENT(garbage), 255);
+}
+
+/* H1: the last five numbers, all different. 1,002.5 and Jog, three seconds of the soak, Hold. */
+static void profile_fields(void) {
+    begin_profile("the profile's numbers");
+    moved(1002, 0x0100);
+    put(27, 0x0008);
+    moved(1002, 0x0200);
+    for (int n = 0; n < 3; n++) moved(1002, 0x0200);
+    put(27, 0x0002);
+    moved(1002, 0x0240);
+    take_record();
+    equals("KEXBARDI_FIELD_SEGMENT", fields[KEXBARDI_FIELD_SEGMENT], 2);
+    equals("KEXBARDI_FIELD_HOLD", fields[KEXBARDI_FIELD_HOLD], 1);
+    equals("KEXBARDI_FIELD_COMPLETE", fields[KEXBARDI_FIELD_COMPLETE], 0);
+    equals("KEXBARDI_FIELD_FRACTION", fields[KEXBARDI_FIELD_FRACTION], 5000);
+    equals("KEXBARDI_FIELD_TIME", fields[KEXBARDI_FIELD_TIME], 300);
+    for (int n = 3; n <= 16; n++) put(27, 0x0008), moved(1002, 256 * (unsigned)n + 64);
+    put(27, 0x0008);
+    moved(1002, 0x0010);
+    take_record();
+    equals("KEXBARDI_FIELD_SEGMENT at the end", fields[KEXBARDI_FIELD_SEGMENT], 0);
+    equals("KEXBARDI_FIELD_HOLD at the end", fields[KEXBARDI_FIELD_HOLD], 0);
+    equals("KEXBARDI_FIELD_COMPLETE at the end", fields[KEXBARDI_FIELD_COMPLETE], 1);
+}
+
 /* ---- line and record */
 
 /* Cascade to the setpoint 1,500 from output 2,000. PV 1,000: P = 1,000 and I = 100, so the bias is 2,100. PV 1,100,
@@ -520,7 +770,7 @@ static void line_words(void) {
     uint16_t room[8];
     begin_loop_a("KEXBARDI_LINE_WORDS");
     for (int n = 0; n < 8; n++) room[n] = 0xa5a5;
-    equals("sample", kexbardi_sample(words, 1024, records, 128, 1, 1000, room), 0);
+    equals("sample", kexbardi_sample(words, 1024, records, 208, 1, 1000, room), 0);
     equals("the last word of the line", room[KEXBARDI_LINE_WORDS - 1], 0x0002);
     equals("the word behind it", room[KEXBARDI_LINE_WORDS], 0xa5a5);
 }
@@ -558,7 +808,7 @@ static void masks(void) {
         KEXBARDI_S_LOW_LOW | KEXBARDI_S_LOW | KEXBARDI_S_HIGH | KEXBARDI_S_HIGH_HIGH | KEXBARDI_S_YELLOW | KEXBARDI_S_RED | KEXBARDI_S_RATE);
 }
 
-/* H1: eight different numbers. In units: 2,180 x 262,144 and 2,980 x 262,144. */
+/* H1: the first eight numbers, all different. In units: 2,180 x 262,144 and 2,980 x 262,144. */
 static void field_indices(void) {
     begin_cascade("the record");
     take_record();
@@ -722,16 +972,17 @@ static void bcd_in_a_loop(void) {
 
 /* ---- refusals */
 
-/* Q1 to Q6: every call answers with it. */
+/* Q1 to Q6, G12: every call answers with it. */
 static void accepted(void) {
     static const uint8_t file[] = {0x06, 0x00, 0x01, 0x00, 0x05, 0x00, 0xd0, 0x07};
     begin_loop_a("KEXBARDI_ACCEPTED");
-    equals("reset", kexbardi_reset(words, 1024, records, 128), KEXBARDI_ACCEPTED);
+    equals("reset", kexbardi_reset(words, 1024, records, 208), KEXBARDI_ACCEPTED);
     settle(0);
     equals("store", store(2, 1500), KEXBARDI_ACCEPTED);
     equals("sample", sample(1, 1000), KEXBARDI_ACCEPTED);
-    equals("record", kexbardi_record(records, 128, 1, fields), KEXBARDI_ACCEPTED);
-    equals("run", kexbardi_run(file, 8, words, 1024, records, 128, answers, 64, &count, &refused), KEXBARDI_ACCEPTED);
+    equals("record", kexbardi_record(records, 208, 1, fields), KEXBARDI_ACCEPTED);
+    equals("forecast", kexbardi_forecast(words, 1024, records, 208, 1, &left), KEXBARDI_ACCEPTED);
+    equals("run", kexbardi_run(file, 8, words, 1024, records, 208, answers, 64, &count, &refused), KEXBARDI_ACCEPTED);
     equals("its store", answers[0], KEXBARDI_ACCEPTED);
     equals("print", kexbardi_print(file, 8, out, 180, &text_length), KEXBARDI_ACCEPTED);
 }
@@ -757,7 +1008,7 @@ static void refused_in_files(void) {
     for (size_t n = 0; n < sizeof rows / sizeof *rows; n++) {
         const struct row *r = &rows[n];
         begin(r->name);
-        equals("run", kexbardi_run(r->file, r->length, words, 1024, records, 128, answers, 64, &count, &refused), 0);
+        equals("run", kexbardi_run(r->file, r->length, words, 1024, records, 208, answers, 64, &count, &refused), 0);
         equals("count", (int64_t)count, 1);
         equals("refused", (int64_t)refused, 1);
         equals("the answer", answers[0], r->number);
@@ -771,7 +1022,7 @@ static void refused_calls(void) {
     equals("sample", sample(1, 0), KEXBARDI_SETTING);
     begin_loop_a("refused calls");
     equals("loop 17", sample(17, 1000), KEXBARDI_LOOP);
-    equals("loop 0", kexbardi_record(records, 128, 0, fields), KEXBARDI_LOOP);
+    equals("loop 0", kexbardi_record(records, 208, 0, fields), KEXBARDI_LOOP);
     equals("address 3", store(3, 5), KEXBARDI_STORE);
     equals("address 1,024", store(1024, 5), KEXBARDI_STORE);
     equals("raw PV 4,096", sample(1, 4096), KEXBARDI_ABOVE);
@@ -783,8 +1034,8 @@ static void refused_calls(void) {
 
 static void refused_memory(void) {
     begin_loop_a("KEXBARDI_MEMORY");
-    equals("1,023 words", kexbardi_reset(words, 1023, records, 128), KEXBARDI_MEMORY);
-    equals("1,023 words in plain numbers", kexbardi_reset(words, 1023, records, 128), 5);
+    equals("1,023 words", kexbardi_reset(words, 1023, records, 208), KEXBARDI_MEMORY);
+    equals("1,023 words in plain numbers", kexbardi_reset(words, 1023, records, 208), 5);
     equals("no room", kexbardi_print(answers, 0, out, 0, &text_length), KEXBARDI_MEMORY);
     records[0] = 3; /* there are modes 0, 1 and 2 */
     equals("a mode out of range", sample(1, 1000), KEXBARDI_MEMORY);
@@ -876,6 +1127,16 @@ int main(void) {
     velocity();
     reset_minutes();
     formats();
+    profile_words();
+    table_addresses();
+    table_words();
+    segments();
+    segment_places();
+    segment_words();
+    profile_commands();
+    profile_flags();
+    segment_of_flags();
+    profile_fields();
     full_scales();
     masks();
     line_indices();

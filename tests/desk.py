@@ -1,7 +1,8 @@
 """A desk in Python, by ctypes alone: python3 tests/desk.py LIBRARY HEADER
 
-It loads the shared library, holds its version to the header's, tries the refusals 4, 5 and 6, and runs loop A. It prints
-what the program `drill` prints of examples/loop-a.drill, and fails where a call answers otherwise than the header says.
+It loads the shared library, holds its version and its sizes to the header's, tries the refusals 4, 5 and 6, runs loop A, and
+then a profile beside its forecast. It prints what the program `drill` prints of examples/loop-a.drill, and fails where a call
+answers otherwise than the header says.
 """
 
 import ctypes
@@ -11,12 +12,13 @@ from ctypes import c_int64, c_size_t, c_uint8, c_uint16, c_uint32, c_uint64
 
 library = ctypes.CDLL(sys.argv[1])
 with open(sys.argv[2], encoding="ascii") as header:
-    version = int(re.search(r"^#define KEXBARDI_VERSION (\d+)$", header.read(), re.M).group(1))
+    defined = {name: int(value) for name, value in re.findall(r"^#define KEXBARDI_(\w+) (\d+)\b", header.read(), re.M)}
 
 Words = c_uint16 * 1024
-Records = c_int64 * 128
+Records = c_int64 * 208
 Line = c_uint16 * 4
-Fields = c_int64 * 8
+Fields = c_int64 * 13
+Samples = c_uint64 * 1
 DESK = [ctypes.POINTER(c_uint16), c_size_t, ctypes.POINTER(c_int64), c_size_t]
 
 
@@ -32,8 +34,9 @@ reset = function("kexbardi_reset", c_uint8, *DESK)
 store = function("kexbardi_store", c_uint8, *DESK, c_uint64, c_uint16)
 sample = function("kexbardi_sample", c_uint8, *DESK, c_uint64, c_uint64, ctypes.POINTER(c_uint16))
 record = function("kexbardi_record", c_uint8, ctypes.POINTER(c_int64), c_size_t, c_uint64, ctypes.POINTER(c_int64))
+forecast = function("kexbardi_forecast", c_uint8, *DESK, c_uint64, ctypes.POINTER(c_uint64))
 
-words, records, line, fields = Words(), Records(), Line(), Fields()
+words, records, line, fields, samples = Words(), Records(), Line(), Fields(), Samples(77)
 desk = (words, len(words), records, len(records))
 
 
@@ -44,13 +47,15 @@ def holds(what, found, expected):
 
 def refused(number, call, *arguments):
     """A refusal has its number, and leaves all lent memory as it was."""
-    before = [bytes(lent) for lent in (words, records, line, fields)]
+    before = [bytes(lent) for lent in (words, records, line, fields, samples)]
     numbers = [argument for argument in arguments if isinstance(argument, int)]
     holds(f"{call.__name__}, {numbers}", call(*arguments), number)
-    holds("memory after a refusal", [bytes(lent) for lent in (words, records, line, fields)], before)
+    holds("memory after a refusal", [bytes(lent) for lent in (words, records, line, fields, samples)], before)
 
 
-holds("the version", version_of(), version)
+holds("the version", version_of(), defined["VERSION"])
+sizes = [len(words), len(records), len(line), len(fields)]
+holds("the header's sizes", [defined[name] for name in ("WORDS", "NUMBERS", "LINE_WORDS", "FIELDS")], sizes)
 for at in range(len(words)):
     words[at] = at
 for at in range(len(records)):
@@ -61,13 +66,18 @@ holds("the desk after reset", (any(words), any(records)), (False, False))
 for loop in (0, 17, 255, 257, 2**64 - 15):
     refused(4, sample, *desk, loop, 0, line)
     refused(4, record, records, len(records), loop, fields)
-refused(5, reset, words, 1023, records, 128)
-refused(5, store, words, 1024, records, 127, 5, 2000)
-refused(5, sample, words, 1024, records, 129, 1, 0, line)
-records[7] = 2
-refused(5, sample, *desk, 1, 0, line)
-refused(5, record, records, len(records), 1, fields)
-records[7] = 0
+    refused(4, forecast, *desk, loop, samples)
+refused(5, reset, words, 1023, records, 208)
+refused(5, store, words, 1024, records, 207, 5, 2000)
+refused(5, sample, words, 1024, records, 209, 1, 0, line)
+refused(5, forecast, words, 1024, records, 128, 1, samples)
+for at, above in ((7, 2), (8, 17), (12, 6000001)):
+    records[at] = above
+    refused(5, sample, *desk, 1, 0, line)
+    refused(5, record, records, len(records), 1, fields)
+    refused(5, forecast, *desk, 1, samples)
+    records[at] = 0
+refused(8, forecast, *desk, 1, samples)
 for address in (3, 4, 6, 29, 1024, 65535, 65541, 2**64 - 1):
     refused(6, store, *desk, address, 1)
 
@@ -86,3 +96,19 @@ for number, (call, first, second) in enumerate(CALLS, 1):
 print(f"{len(CALLS)} records, {refusals} refused")
 holds("the record", record(records, len(records), 1, fields), 0)
 holds("a sampled loop in Automatic", (fields[0], fields[7]), (1, 1))
+
+# A profile of loop A, its table at 700: from 1,500 down to 1,490 by 3.00 a second and 0.1 minutes there. It takes 4 samples and
+# 6, and one more, for the next ramp has slope 0.
+for address, value in [(700, 1490), (701, 0x0300), (702, 0x0001), (28, 700), (0, 0x0800), (27, 1)]:
+    holds("a store of the profile", store(*desk, address, value), 0)
+holds("the sample that starts it", (sample(*desk, 1, 1000, line), line[0], words[27]), (0, 1500, 0x0100))
+shown = []
+for remain in range(11, 0, -1):
+    holds("the forecast", (forecast(*desk, 1, samples), samples[0]), (0, remain))
+    holds("a sample of the profile", sample(*desk, 1, 1000, line), 0)
+    shown.append((line[0], words[27]))
+expected = [(1497, 0x0100), (1494, 0x0100), (1491, 0x0100)] + [(1490, 0x0200)] * 6 + [(1490, 0x0300), (1490, 0x0010)]
+holds("the setpoints and word 27", shown, expected)
+holds("the forecast at the end", (forecast(*desk, 1, samples), samples[0]), (0, 0))
+holds("the record", record(records, len(records), 1, fields), 0)
+holds("a complete profile", fields[8:], [0, 0, 1, 0, 0])

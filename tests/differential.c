@@ -9,7 +9,7 @@
 #include <string.h>
 
 #define SPARE 8 /* elements behind a desk's memory, for lengths that are too great */
-#define LONGEST 1200
+#define LONGEST 2000
 #define ANSWERS 400
 
 /* what one engine works on */
@@ -19,6 +19,7 @@ struct desk {
     uint16_t line[4];
     uint8_t answers[ANSWERS], text[KEXBARDI_PRINT_ROOM(LONGEST)];
     size_t count, refused, length;
+    uint64_t samples;
 };
 
 static struct desk ours, plain;
@@ -31,12 +32,30 @@ static size_t size;
 /* What an accepted sample can exercise, counted where it makes a difference to the result. */
 enum feature {
     MANUAL, AUTOMATIC, CASCADE, POSITION, VELOCITY, BITS_12, BITS_15, BITS_16, FREEZE, ROOT, SQUARED, DEADBAND, REVERSE, RESET_9999,
-    MINUTES, RATE, BUMPLESS_II, INSIDE, FEATURES
+    MINUTES, RATE, BUMPLESS_II, INSIDE,
+    START, RESTART, HOLD, RESUME, JOG, JOG_HELD, JOG_LAST, NO_EFFECT, SEVERAL,
+    UP, DOWN, FRACTION, EXACT, OVERSHOT, ALREADY_THERE, SLOPE_0_FIRST, SLOPE_0_LATER, SOAKS, SOAK_ENDS, DURATION_0, COMPLETES,
+    HELD_RAMP, HELD_SOAK, HELD_NOTHING, DEVIATES, JUST_ALLOWED, NO_DEVIATION, IN_MANUAL, WAITS, TAKEN_OFF, POINTER_LOST, BELOW, ABOVE,
+    FIRST_TABLE, LAST_TABLE, OVERLAP, ENTRY_RUNNING, ENTRY_START, FEATURES
 };
 static const char *const feature_names[FEATURES] = {"Manual", "Automatic", "Cascade", "position", "velocity", "12 bits", "15 bits",
     "16 bits", "freeze at a limit", "root", "squared", "inside the deadband", "reverse", "reset 9999", "minutes", "rate",
-    "Bumpless II", "output inside its limits"};
-static unsigned long features[FEATURES];
+    "Bumpless II", "output inside its limits",
+    "Start", "Start of a running profile", "Hold", "Resume", "Jog", "Jog of a held profile", "Jog of segment 16",
+    "command without effect", "several commands",
+    "ramp up", "ramp down", "fraction alone moves", "end reached exactly", "end overshot", "already at the end", "slope 0 first",
+    "slope 0 later", "soak goes on", "soak ends", "duration 0", "segment 16 ends",
+    "held in a ramp", "held in a soak", "held and no profile", "soak deviation", "at the soak deviation", "deviation 0",
+    "profile in Manual", "profile waits in Cascade", "bit 11 taken off in a run", "pointer lost in a run", "pointer below",
+    "pointer above", "table at 512", "table at 992", "table across others", "entry while running", "entry with Start waiting"};
+static unsigned long features[FEATURES], segments[KEXBARDI_SEGMENTS + 1]; /* samples that moved in a segment */
+
+/* what a table is refused with where nothing else is wrong, and what forecasts answer */
+enum reached { TABLE_DIGIT, TABLE_END, SOME, NONE, FAR, WHILE_HELD, WITH_COMMAND, IN_CASCADE, ABOVE_FULL, REACHED };
+static const char *const reached_names[REACHED] = {"refused with 7 for the table alone", "refused with 8 for the table alone",
+    "forecast above 0", "forecast 0", "forecast above a million", "forecast in a hold", "forecast with a command waiting",
+    "forecast in Cascade", "forecast from a setpoint above full scale"};
+static unsigned long reached[REACHED], forecast_refusals[10];
 
 /* 0 to below - 1 */
 static unsigned any(unsigned below) {
@@ -56,6 +75,17 @@ static void differ(const char *call, const char *what) {
     exit(1);
 }
 
+/* every word and number that differs */
+static void differ_at(const char *call) {
+    for (unsigned n = 0; n < KEXBARDI_WORDS; n++)
+        if (ours.words[n] != plain.words[n]) printf("address %u: %u, plain engine %u\n", n, ours.words[n], plain.words[n]);
+    for (unsigned n = 0; n < KEXBARDI_NUMBERS; n++)
+        if (ours.records[n] != plain.records[n])
+            printf("loop %u, number %u: %lld, plain engine %lld\n", n / KEXBARDI_FIELDS + 1, n % KEXBARDI_FIELDS,
+                (long long)ours.records[n], (long long)plain.records[n]);
+    differ(call, "words or records");
+}
+
 /* after every call: both answers, and both desks whole */
 static void compare(const char *call, uint8_t a, uint8_t b) {
     calls++;
@@ -65,9 +95,9 @@ static void compare(const char *call, uint8_t a, uint8_t b) {
     }
     if (a > 9) differ(call, "numbers of refusals");
     refusals[a]++;
+    if (memcmp(ours.words, plain.words, sizeof ours.words) != 0) differ_at(call);
+    if (memcmp(ours.records, plain.records, sizeof ours.records) != 0) differ_at(call);
     if (memcmp(ours.line, plain.line, sizeof ours.line) != 0) differ(call, "lines");
-    if (memcmp(ours.words, plain.words, sizeof ours.words) != 0) differ(call, "words");
-    if (memcmp(ours.records, plain.records, sizeof ours.records) != 0) differ(call, "records");
 }
 
 /* A length that is right but once in 500. */
@@ -108,9 +138,9 @@ static void file_sample(unsigned loop, unsigned raw) { pair(5), pair(2), byte(lo
 
 static unsigned bcd(unsigned n) { return n / 1000 % 10 << 12 | n / 100 % 10 << 8 | n / 10 % 10 << 4 | n % 10; }
 
-/* mode 1 with one request and each other bit once in four; bits 9 and 11 are refused, so they stay 0 */
+/* mode 1 with one request, the profile two times in three and each other bit once in four; bit 9 is refused, so it stays 0 */
 static unsigned mode_1(void) {
-    unsigned word = 1u << (any(4) ? 1 + any(2) : 0);
+    unsigned word = 1u << (any(4) ? 1 + any(2) : 0) | (any(3) ? KEXBARDI_M1_PROFILE : 0);
     for (unsigned n = 4; n < 16; n++)
         if (n != 9 && n != 11 && once_in(4)) word |= 1u << n;
     return word & 32 || any(3) ? word : word | 8;
@@ -120,15 +150,54 @@ static unsigned full_scale(unsigned mode_2) { return mode_2 & 512 ? 65535 : mode
 
 typedef void writer(unsigned address, unsigned value);
 
+static int good_address(unsigned table) { return table >= KEXBARDI_TABLE_FIRST && table <= KEXBARDI_TABLE_LAST; }
+
+/* Mostly a table of the loop's own, which begins and ends where its neighbours' do; else one that lies across others, or an
+ * address at or beyond the ends. */
+static unsigned table_address(unsigned loop) {
+    static const unsigned ends[] = {0, 511, 512, 992, 993, 1023, 1024, 65535};
+    if (any(10)) return KEXBARDI_TABLE_FIRST + (any(5) ? KEXBARDI_TABLE_WORDS * (loop - 1) : 4 * any(121));
+    return any(4) ? ends[any(8)] : KEXBARDI_TABLE_FIRST + any(481);
+}
+
+/* a slope or duration, digits good but once in 1,000 */
+static unsigned digits(unsigned n) { return any(1000) ? bcd(n > 9999 ? 9999 : n) : any(65536); }
+
+/* A table whose profile, begun at a setpoint, has segments of a few samples: ends lie as many steps apart, and durations are as
+ * many periods. */
+static void fill_table(writer *write, unsigned table, unsigned full, unsigned period, unsigned setpoint) {
+    for (unsigned n = 1; n <= KEXBARDI_SEGMENTS; n += 2) {
+        unsigned ramp = table + KEXBARDI_SEGMENT(n), soak = table + KEXBARDI_SEGMENT(n + 1);
+        unsigned slope = once_in(30) ? 0 : once_in(3) ? 100 + 100 * any(99) : any(any(2) ? 10000 : 100);
+        unsigned way = slope * period * any(4) / 10000 + any(3);
+        setpoint = once_in(2) ? (setpoint > way ? setpoint - way : 0) : (setpoint + way < full ? setpoint + way : full);
+        write(ramp + KEXBARDI_END, any(300) ? setpoint : any(65536));
+        write(ramp + KEXBARDI_SLOPE, digits(slope));
+        write(soak + KEXBARDI_DURATION, digits(period * any(4) / 600 + once_in(8)));
+        write(soak + KEXBARDI_DEVIATION, any(3) ? any(30) : any(2) * any(full + 1));
+    }
+}
+
+/* Stores are calls, and a table is 32 of them, so most of a desk's tables are written by hand. */
+static writer *table_writer(writer *write) { return write == store && any(4) ? write_word : write; }
+
+static void settle_profile(writer *write, unsigned loop, unsigned full, unsigned period, unsigned setpoint) {
+    unsigned base = KEXBARDI_ADDRESS(loop, 0), table = table_address(loop);
+    write(base + KEXBARDI_PROFILE_TABLE, table);
+    write(base + KEXBARDI_PROFILE_FLAGS, any(3) ? KEXBARDI_P_START : any(65536));
+    if (good_address(table)) fill_table(table_writer(write), table, full, period, setpoint);
+}
+
 /* a loop set up so that its samples are accepted */
 static unsigned settle(writer *write, unsigned loop) {
     static const unsigned mode_2s[] = {0, 2, 512, 530, 16, 256, 18, 514};
     unsigned base = KEXBARDI_ADDRESS(loop, 0), mode_2 = mode_2s[any(8)], full = full_scale(mode_2), low = any(2) * any(full / 2 + 1);
+    unsigned setpoint = any(full + 1), period = once_in(3) ? 100 + 100 * any(99) : 5 + any(any(2) ? 9995 : 100);
     write(base + KEXBARDI_MODE_1, mode_1());
     write(base + KEXBARDI_MODE_2, mode_2);
-    write(base + KEXBARDI_SETPOINT, any(full + 1));
+    write(base + KEXBARDI_SETPOINT, setpoint);
     write(base + KEXBARDI_OUTPUT, any(65536));
-    write(base + KEXBARDI_PERIOD, bcd(any(2) ? 5 + any(9995) : 5 + any(100)));
+    write(base + KEXBARDI_PERIOD, bcd(period));
     write(base + KEXBARDI_GAIN, bcd(any(3) ? any(200) : any(10000)));
     write(base + KEXBARDI_RESET, bcd(any(4) ? 1 + any(9999) : 9999));
     write(base + KEXBARDI_RATE, bcd(any(2) * any(any(2) ? 100 : 10000)));
@@ -141,12 +210,13 @@ static unsigned settle(writer *write, unsigned loop) {
     write(base + KEXBARDI_OUTPUT_LOW, low);
     write(base + KEXBARDI_OUTPUT_HIGH, low + any(full - low + 1));
     write(base + KEXBARDI_POINTER, any(4) ? 600 : any(1024));
+    settle_profile(write, loop, full, period, setpoint);
     return full;
 }
 
 /* a setting at the edge of what is allowed, on either side */
 static void change_to_edge(writer *write, unsigned base, unsigned full) {
-    static const unsigned refused_bits[] = {512, 2048, 40};
+    static const unsigned refused_bits[] = {512, 512, 40};
     switch (any(9)) {
     case 0: write(base + KEXBARDI_PERIOD, 3 + any(4)); break;
     case 1: write(base + KEXBARDI_RESET, any(2)); break;
@@ -160,10 +230,48 @@ static void change_to_edge(writer *write, unsigned base, unsigned full) {
     }
 }
 
+/* one command or several, and bits that are never read; more often one that ends a hold or the last segment */
+static unsigned command(unsigned loop) {
+    const int64_t *record = ours.records + KEXBARDI_FIELDS * (loop - 1);
+    unsigned one = 1u << any(4), others = any(2) * any(4096) << 4;
+    if (record[KEXBARDI_FIELD_HOLD] == 1 && once_in(2)) one = KEXBARDI_P_RESUME;
+    if (record[KEXBARDI_FIELD_SEGMENT] == KEXBARDI_SEGMENTS && once_in(2)) one = KEXBARDI_P_JOG;
+    return (once_in(4) ? any(16) : one) | others;
+}
+
+/* a word of the loop's table: a slope or a duration of 0, a digit or an end at the edge of what is allowed, or anything; or a
+ * ramp that takes long */
+static void change_table(writer *write, unsigned table, unsigned full) {
+    static const unsigned edges[] = {0x9999, 0x000A, 0x00A0, 0x0A00, 0xA000};
+    unsigned ramp = table + 4 * any(8), soak = ramp + 2;
+    switch (any(8)) {
+    case 0: write(ramp + KEXBARDI_SLOPE, any(2) * bcd(any(10000))); break;
+    case 1: write(soak + KEXBARDI_DURATION, any(2) * bcd(any(20))); break;
+    case 2: write(once_in(2) ? ramp + KEXBARDI_SLOPE : soak + KEXBARDI_DURATION, edges[any(5)]); break;
+    case 3: write(ramp + KEXBARDI_END, full + any(2)); break;
+    case 4: write(soak + KEXBARDI_DEVIATION, any(2) * any(full + 1)); break;
+    case 5: case 6: write(ramp + KEXBARDI_SLOPE, 1 + any(3)), write(ramp + KEXBARDI_END, any(2) * full); break;
+    default: write(ramp + any(4), any(2) ? any(4096) : any(65536)); break;
+    }
+}
+
+/* something of the profile changed: commands mostly, else its switch, pointer or table */
+static void change_profile(writer *write, unsigned loop) {
+    unsigned base = KEXBARDI_ADDRESS(loop, 0), table = ours.words[base + KEXBARDI_PROFILE_TABLE];
+    unsigned full = full_scale(ours.words[base + KEXBARDI_MODE_2]), setpoint = ours.words[base + KEXBARDI_SETPOINT];
+    switch (any(12)) {
+    case 0: write(base + KEXBARDI_MODE_1, ours.words[base + KEXBARDI_MODE_1] ^ KEXBARDI_M1_PROFILE); break;
+    case 1: write(base + KEXBARDI_PROFILE_TABLE, table_address(loop)); break;
+    case 2: if (good_address(table)) fill_table(table_writer(write), table, full, 5 + any(9995), setpoint); break;
+    case 3: case 4: if (good_address(table)) change_table(write, table, full); break;
+    default: write(base + KEXBARDI_PROFILE_FLAGS, command(loop)); break;
+    }
+}
+
 /* a setting changed, now and then to what is refused */
 static void change(writer *write, unsigned loop) {
     unsigned base = KEXBARDI_ADDRESS(loop, 0), full = full_scale(ours.words[base + KEXBARDI_MODE_2]);
-    switch (any(16)) {
+    switch (any(22)) {
     case 0: write(base + any(32), any(65536)); break;
     case 1: write(any(1100), any(65536)); break;
     case 2: case 3: case 4: write(base + KEXBARDI_SETPOINT, any(full + 1)); break;
@@ -173,6 +281,8 @@ static void change(writer *write, unsigned loop) {
     case 10: write(base + KEXBARDI_DEADBAND, any(full + 1)); break;
     case 11: write(base + KEXBARDI_LOW_LOW + any(7), any(full + 1)); break;
     case 12: change_to_edge(write, base, full); break;
+    case 13: case 14: write(base + KEXBARDI_MODE_1, (ours.words[base + KEXBARDI_MODE_1] & ~7u) | 1u << any(3)); break;
+    case 15: case 16: case 17: case 18: change_profile(write, loop); break;
     default: write(base + KEXBARDI_MODE_1, mode_1()); break;
     }
 }
@@ -184,7 +294,9 @@ static void write_record(unsigned loop) {
     const int64_t numbers[KEXBARDI_FIELDS] = {any(3),
         once_in(4) ? most_bias - any(3) : once_in(3) ? any(3) - most_bias : any64() % most_bias,
         once_in(4) ? most_output - any(3) : llabs(any64() % most_output),
-        any(65536), any(65536), (int64_t)any(131071) - 65535, any(2), any(2)};
+        any(65536), any(65536), (int64_t)any(131071) - 65535, any(2), any(2),
+        any(2) ? 16 * any(2) : 1 + any(16), any(2), once_in(4), once_in(4) ? 9999 * any(2) : any(10000),
+        once_in(4) ? 6000000 * any(2) : any(any(2) ? 20000 : 6000001)};
     for (unsigned n = 0; n < KEXBARDI_FIELDS; n++)
         if (n == only || only >= KEXBARDI_FIELDS) write_number(at + n, numbers[n]);
 }
@@ -192,7 +304,8 @@ static void write_record(unsigned loop) {
 /* one number far outside or just outside its range, or any number */
 static void spoil_record(unsigned loop) {
     static const int64_t near[KEXBARDI_FIELDS][2] = {{-1, 3}, {-((int64_t)1 << 52) - 1, ((int64_t)1 << 52) + 1},
-        {-1, 65535 * (int64_t)262144 + 1}, {-1, 65536}, {-1, 65536}, {-65536, 65536}, {-1, 2}, {-1, 2}};
+        {-1, 65535 * (int64_t)262144 + 1}, {-1, 65536}, {-1, 65536}, {-65536, 65536}, {-1, 2}, {-1, 2}, {-1, 17}, {-1, 2}, {-1, 2},
+        {-1, 10000}, {-1, 6000001}};
     unsigned field = any(KEXBARDI_FIELDS), at = KEXBARDI_FIELDS * (loop - 1) + field;
     if (once_in(2)) write_number(at, near[field][any(2)]);
     else write_number(at, once_in(3) ? INT64_MIN : once_in(3) ? INT64_MAX : any64());
@@ -218,11 +331,107 @@ static void count_features(unsigned mode_1, const uint16_t *w, const int64_t *re
     features[INSIDE] += working && !at_limit;
 }
 
+/* a loop's words and record as they stood before a sample */
+struct former {
+    uint16_t words[KEXBARDI_LOOP_WORDS];
+    int64_t record[KEXBARDI_FIELDS];
+};
+
+static void count_command(const struct former *former, unsigned commands) {
+    int64_t segment = former->record[KEXBARDI_FIELD_SEGMENT], held = former->record[KEXBARDI_FIELD_HOLD];
+    unsigned lowest = commands & -commands;
+    features[SEVERAL] += commands != lowest;
+    if (lowest == KEXBARDI_P_START) features[segment > 0 ? RESTART : START]++;
+    else if (segment == 0 || (lowest == KEXBARDI_P_RESUME && !held)) features[NO_EFFECT]++;
+    else if (lowest == KEXBARDI_P_HOLD) features[HOLD]++;
+    else if (lowest == KEXBARDI_P_RESUME) features[RESUME]++;
+    else features[segment == KEXBARDI_SEGMENTS ? JOG_LAST : held ? JOG_HELD : JOG]++;
+}
+
+static void count_ramp(const struct former *former, const uint16_t *ramp, unsigned setpoint) {
+    int64_t at = 10000 * (int64_t)former->words[KEXBARDI_SETPOINT] + former->record[KEXBARDI_FIELD_FRACTION];
+    int64_t end = 10000 * (int64_t)ramp[KEXBARDI_END], way = llabs(end - at);
+    int64_t step = (int64_t)KEXBARDI_HUNDREDTHS(ramp[KEXBARDI_SLOPE]) * KEXBARDI_HUNDREDTHS(former->words[KEXBARDI_PERIOD]);
+    if (step == 0) features[former->record[KEXBARDI_FIELD_SEGMENT] == 1 ? SLOPE_0_FIRST : SLOPE_0_LATER]++;
+    else if (way <= step) features[way == 0 ? ALREADY_THERE : way == step ? EXACT : OVERSHOT]++;
+    else features[setpoint == former->words[KEXBARDI_SETPOINT] ? FRACTION : at < end ? UP : DOWN]++;
+}
+
+static void count_soak(const struct former *former, const uint16_t *soak) {
+    int64_t time = former->record[KEXBARDI_FIELD_TIME] + KEXBARDI_HUNDREDTHS(former->words[KEXBARDI_PERIOD]);
+    unsigned duration = KEXBARDI_HUNDREDTHS(soak[KEXBARDI_DURATION]);
+    int ends = time >= 600 * (int64_t)duration;
+    features[duration == 0 ? DURATION_0 : ends ? SOAK_ENDS : SOAKS]++;
+    features[COMPLETES] += ends && former->record[KEXBARDI_FIELD_SEGMENT] == KEXBARDI_SEGMENTS;
+}
+
+/* with a table, outside Cascade */
+static void count_profile(const struct former *former, const uint16_t *w, const uint16_t *table) {
+    unsigned commands = former->words[KEXBARDI_PROFILE_FLAGS] & 15, flags = w[KEXBARDI_PROFILE_FLAGS];
+    unsigned after = KEXBARDI_P_SEGMENT(flags);
+    int64_t segment = former->record[KEXBARDI_FIELD_SEGMENT], held = former->record[KEXBARDI_FIELD_HOLD];
+    if (commands) count_command(former, commands);
+    else if (held) features[segment == 0 ? HELD_NOTHING : segment % 2 ? HELD_RAMP : HELD_SOAK]++;
+    else if (segment > 0) {
+        segments[segment]++;
+        if (segment % 2) count_ramp(former, table + KEXBARDI_SEGMENT(segment), w[KEXBARDI_SETPOINT]);
+        else count_soak(former, table + KEXBARDI_SEGMENT(segment));
+    }
+    if (after > 0 && after % 2 == 0) {
+        int deviation = table[KEXBARDI_SEGMENT(after) + KEXBARDI_DEVIATION], apart = abs(w[KEXBARDI_SETPOINT] - w[KEXBARDI_PV]);
+        features[DEVIATES] += (flags & KEXBARDI_P_DEVIATION) != 0;
+        features[JUST_ALLOWED] += apart == deviation && deviation > 0;
+        features[NO_DEVIATION] += apart > deviation && deviation == 0;
+    }
+    features[IN_MANUAL] += segment > 0 && w[KEXBARDI_STATUS] & KEXBARDI_S_MANUAL;
+    features[FIRST_TABLE] += w[KEXBARDI_PROFILE_TABLE] == 512;
+    features[LAST_TABLE] += w[KEXBARDI_PROFILE_TABLE] == 992;
+    features[OVERLAP] += w[KEXBARDI_PROFILE_TABLE] % KEXBARDI_TABLE_WORDS != 0;
+}
+
+/* an entry to Automatic with Bumpless I */
+static void count_entry(const struct former *former, const uint16_t *w) {
+    int velocity = (w[0] & KEXBARDI_M1_VELOCITY) != 0, running = former->record[KEXBARDI_FIELD_SEGMENT] > 0;
+    if (former->record[KEXBARDI_FIELD_MODE] != KEXBARDI_MANUAL && former->record[KEXBARDI_FIELD_VELOCITY] == velocity) return;
+    features[ENTRY_RUNNING] += running && former->words[KEXBARDI_SETPOINT] != w[KEXBARDI_PV];
+    features[ENTRY_START] += !running && former->words[KEXBARDI_PROFILE_FLAGS] & KEXBARDI_P_START;
+}
+
+static void count_profile_features(const struct former *former, const uint16_t *w) {
+    unsigned table = w[KEXBARDI_PROFILE_TABLE], status = w[KEXBARDI_STATUS];
+    int on = (w[0] & KEXBARDI_M1_PROFILE) != 0, has_table = on && good_address(table);
+    int running = former->record[KEXBARDI_FIELD_SEGMENT] > 0;
+    if (status & KEXBARDI_S_CASCADE) {
+        features[WAITS] += running && has_table;
+        return;
+    }
+    features[TAKEN_OFF] += running && !on;
+    features[POINTER_LOST] += running && on && !has_table;
+    features[BELOW] += w[KEXBARDI_PROFILE_FAULT] == KEXBARDI_FAULT_BELOW;
+    features[ABOVE] += w[KEXBARDI_PROFILE_FAULT] == KEXBARDI_FAULT_ABOVE;
+    if (!has_table) return;
+    count_profile(former, w, ours.words + table);
+    if (status & KEXBARDI_S_AUTOMATIC && !(w[0] & KEXBARDI_M1_BUMPLESS_II)) count_entry(former, w);
+}
+
+/* A sample that was refused with 7 or 8 while the profile has a table: whether without the profile it would not have been. */
+static void count_refusal(uint8_t answer, unsigned loop, uint64_t raw) {
+    static struct desk without;
+    unsigned mode_1 = KEXBARDI_ADDRESS(loop, KEXBARDI_MODE_1), table = ours.words[KEXBARDI_ADDRESS(loop, KEXBARDI_PROFILE_TABLE)];
+    if (!(ours.words[mode_1] & KEXBARDI_M1_PROFILE) || !good_address(table)) return;
+    memcpy(without.words, ours.words, sizeof without.words);
+    memcpy(without.records, ours.records, sizeof without.records);
+    without.words[mode_1] &= ~(unsigned)KEXBARDI_M1_PROFILE;
+    if (plain_sample(without.words, KEXBARDI_WORDS, without.records, KEXBARDI_NUMBERS, loop, raw, without.line) == 0)
+        reached[answer == 7 ? TABLE_DIGIT : TABLE_END]++;
+}
+
 /* The next raw PV: mostly on its way to the setpoint, else any; rarely above full scale. */
 static unsigned raw_pv(const uint16_t *w) {
     int full = (int)full_scale(w[1]), raw = w[3] + (w[2] - w[3]) / 4 + (int)any(41) - 20;
     if (once_in(100)) return any(2) ? any(65536) : (unsigned)full + any(2);
     if (once_in(6)) return any((unsigned)full + 1);
+    if (once_in(6)) raw = w[2] + (int)any(61) - 30;
     return (unsigned)(raw < 0 ? 0 : raw > full ? full : raw);
 }
 
@@ -230,7 +439,9 @@ static unsigned raw_pv(const uint16_t *w) {
 static uint8_t sample(unsigned number) {
     uint64_t loop = widened(number, 8);
     const uint16_t *w = ours.words + KEXBARDI_LOOP_WORDS * ((loop - 1) % KEXBARDI_LOOPS);
-    unsigned mode_1 = w[0];
+    struct former former;
+    memcpy(former.words, w, sizeof former.words);
+    memcpy(former.record, ours.records + KEXBARDI_FIELDS * ((loop - 1) % KEXBARDI_LOOPS), sizeof former.record);
     uint64_t raw = widened(raw_pv(w), 16);
     size_t words = length_of(KEXBARDI_WORDS), records = length_of(KEXBARDI_NUMBERS);
     uint8_t a = kexbardi_sample(ours.words, words, ours.records, records, loop, raw, ours.line);
@@ -238,10 +449,37 @@ static uint8_t sample(unsigned number) {
     wide_refusals[a] += loop > 255 || raw > 65535;
     if (a == 0) {
         accepted++;
-        count_features(mode_1, w, ours.records + KEXBARDI_FIELDS * (loop - 1), ours.line[KEXBARDI_LINE_SETPOINT],
+        count_features(former.words[0], w, ours.records + KEXBARDI_FIELDS * (loop - 1), ours.line[KEXBARDI_LINE_SETPOINT],
             ours.line[KEXBARDI_LINE_PV]);
+        count_profile_features(&former, w);
     }
+    if (a == 7 || a == 8) count_refusal(a, (unsigned)loop, raw);
     return a;
+}
+
+/* A forecast that was accepted: from what state. */
+static void count_forecast(const uint16_t *w, const int64_t *record) {
+    reached[ours.samples ? SOME : NONE]++;
+    if (ours.samples == 0) return;
+    reached[FAR] += ours.samples > 1000000;
+    reached[WHILE_HELD] += record[KEXBARDI_FIELD_HOLD] == 1;
+    reached[WITH_COMMAND] += (w[KEXBARDI_PROFILE_FLAGS] & 15) != 0;
+    reached[IN_CASCADE] += record[KEXBARDI_FIELD_MODE] == KEXBARDI_CASCADE && !(w[0] & KEXBARDI_M1_REQUESTS);
+    reached[ABOVE_FULL] += w[KEXBARDI_SETPOINT] > full_scale(w[KEXBARDI_MODE_2]);
+}
+
+static void forecast(unsigned number) {
+    uint64_t loop = widened(number, 8);
+    int64_t before = any64();
+    size_t words = length_of(KEXBARDI_WORDS), records = length_of(KEXBARDI_NUMBERS);
+    ours.samples = plain.samples = (uint64_t)before;
+    uint8_t a = kexbardi_forecast(ours.words, words, ours.records, records, loop, &ours.samples);
+    compare("forecast", a, plain_forecast(plain.words, words, plain.records, records, loop, &plain.samples));
+    wide_refusals[a] += loop > 255;
+    forecast_refusals[a]++;
+    if (ours.samples != plain.samples) differ("forecast", "counts");
+    if (a != 0 && ours.samples != (uint64_t)before) differ("forecast", "counts before and behind a refusal");
+    if (a == 0) count_forecast(ours.words + KEXBARDI_ADDRESS(loop, 0), ours.records + KEXBARDI_FIELDS * (loop - 1));
 }
 
 static void record(unsigned number) {
@@ -295,8 +533,38 @@ static void reset(void) {
     compare("reset", a, plain_reset(plain.words, words, plain.records, records));
 }
 
-/* A loop that refuses is soon set up again, so that most samples are accepted. */
+/* Once in a while from a setpoint that only Cascade allows. */
+static void any_forecast(unsigned loop) {
+    unsigned mode_1 = KEXBARDI_ADDRESS(loop, KEXBARDI_MODE_1);
+    if (once_in(8)) {
+        write_word(KEXBARDI_ADDRESS(loop, KEXBARDI_SETPOINT), any(65536));
+        write_word(mode_1, (ours.words[mode_1] & ~(unsigned)KEXBARDI_M1_REQUESTS) | KEXBARDI_M1_CASCADE);
+    }
+    forecast(once_in(20) ? any(256) : loop);
+}
+
+/* A profile in one go: a loop set up with a good table, started in Manual or Automatic, and sampled until it completes or for long
+ * enough, with a hand on it now and then. */
+static void run_profile(unsigned loop) {
+    unsigned base = KEXBARDI_ADDRESS(loop, 0), table = KEXBARDI_TABLE_FIRST + KEXBARDI_TABLE_WORDS * (loop - 1);
+    unsigned full = settle(write_word, loop), request = any(3) ? KEXBARDI_M1_MANUAL : KEXBARDI_M1_AUTOMATIC;
+    write_word(base + KEXBARDI_MODE_1, (mode_1() & ~(unsigned)KEXBARDI_M1_REQUESTS) | KEXBARDI_M1_PROFILE | request);
+    write_word(base + KEXBARDI_PROFILE_TABLE, table);
+    write_word(base + KEXBARDI_PROFILE_FLAGS, KEXBARDI_P_START);
+    unsigned period = KEXBARDI_HUNDREDTHS(ours.words[base + KEXBARDI_PERIOD]);
+    fill_table(write_word, table, full, period, ours.words[base + KEXBARDI_SETPOINT]);
+    for (unsigned left = 30 + any(50); left > 0; left--) {
+        if (once_in(16)) change_profile(write_word, loop);
+        if (once_in(25)) write_word(base + KEXBARDI_MODE_1, ours.words[base + KEXBARDI_MODE_1] | 1u << any(3));
+        if (sample(loop) == 5) write_record(loop);
+        if (once_in(2)) forecast(loop);
+        if (ours.words[base + KEXBARDI_PROFILE_FLAGS] & KEXBARDI_P_COMPLETE && any(4)) break;
+    }
+}
+
+/* A sample, now and then with a command. A loop that refuses is soon set up again, so that most samples are accepted. */
 static void sample_and_mend(unsigned loop) {
+    if (once_in(16)) write_word(KEXBARDI_ADDRESS(loop, KEXBARDI_PROFILE_FLAGS), command(loop));
     uint8_t a = sample(loop);
     if (a == 5 && once_in(3)) write_record(loop);
     if ((a == 7 || a == 8) && once_in(3)) settle(once_in(2) ? store : write_word, loop), write_word(600, any(4096));
@@ -304,7 +572,9 @@ static void sample_and_mend(unsigned loop) {
 
 static void turn(void) {
     unsigned loop = 1 + any(16), kind = any(10000);
-    if (kind < 8500) sample_and_mend(loop);
+    if (kind < 8200) sample_and_mend(loop);
+    else if (kind < 8260) run_profile(loop);
+    else if (kind < 8500) any_forecast(loop);
     else if (kind < 9000) change(store, loop);
     else if (kind < 9200) record(once_in(10) ? any(256) : loop);
     else if (kind < 9400) run(loop);
@@ -318,13 +588,19 @@ static void turn(void) {
 }
 
 static int report(void) {
-    static const int wide[] = {4, 6, 9};
+    static const int wide[] = {4, 6, 9}, of_forecast[] = {4, 5, 7, 8};
     int missing = 0;
     printf("%lu calls, %lu samples accepted\n", calls, accepted);
     for (int n = 1; n <= 9; n++) printf("refused with %d: %lu\n", n, refusals[n]), missing += refusals[n] == 0;
     for (int n = 0; n < 3; n++)
         printf("refused with %d by a wide number: %lu\n", wide[n], wide_refusals[wide[n]]), missing += wide_refusals[wide[n]] == 0;
     for (int n = 0; n < FEATURES; n++) printf("accepted, %s: %lu\n", feature_names[n], features[n]), missing += features[n] == 0;
+    for (int n = 1; n <= KEXBARDI_SEGMENTS; n++) printf("accepted, moved in segment %d: %lu\n", n, segments[n]), missing += segments[n] == 0;
+    for (int n = 0; n < REACHED; n++) printf("%s: %lu\n", reached_names[n], reached[n]), missing += reached[n] == 0;
+    for (int n = 0; n < 4; n++) {
+        printf("forecast refused with %d: %lu\n", of_forecast[n], forecast_refusals[of_forecast[n]]);
+        missing += forecast_refusals[of_forecast[n]] == 0;
+    }
     if (missing) printf("%d of these never happened\n", missing);
     else printf("%lu calls: equal\n", calls);
     return missing != 0;

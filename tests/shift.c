@@ -1,6 +1,7 @@
 /* A whole shift on the archive and on the plain engine: sixteen loops, 20 samples a second each, eight hours.
- * Every loop is closed over a small process, and an instructor changes setpoints, gains and modes. It links
- * the archive and bench/plain_engine.c:
+ * Every loop is closed over a small process, and an instructor changes setpoints, gains and modes. Some loops follow
+ * profiles of half an hour and more, which the instructor starts, holds, resumes and jogs. It links the archive and
+ * bench/plain_engine.c:
  *   gcc -O2 -std=c99 -Itarget/kexbardi/include -Ibench tests/shift.c bench/plain_engine.c target/kexbardi/lib/libkexbardi.a */
 #include "kexbardi.h"
 #include "plain_engine.h"
@@ -11,7 +12,7 @@
 
 #define SAMPLES (16L * 20 * 3600 * 8)
 #define PARTS 1024 /* a process's level is in 1/1,024 of a count */
-#define MASTER 600 /* the word that the loops in Cascade follow */
+#define MASTER 600 /* the word that the loops in Cascade follow; in no table of those below */
 
 struct desk {
     uint16_t words[KEXBARDI_WORDS];
@@ -28,6 +29,7 @@ struct process {
 static struct desk ours, plain;
 static struct process processes[KEXBARDI_LOOPS];
 static uint64_t seed = 88172645463325252ull;
+static long completed[KEXBARDI_LOOPS], in_segment[KEXBARDI_SEGMENTS + 1];
 
 /* 0 to below - 1 */
 static unsigned any(unsigned below) {
@@ -48,9 +50,13 @@ static void store(unsigned address, unsigned value) {
     if (a != 0 || b != 0) fail(0, "a store is refused");
 }
 
+/* the loops with a profile: every format and form, both kinds of Bumpless, freeze, deadband and reverse */
+static int has_profile(unsigned loop) { return loop % 4 == 2 || loop == 9 || loop == 16; }
+
 /* mode 1: a request, alarms watched, and what this loop is for its whole life */
 static unsigned mode_1(unsigned loop, unsigned request) {
     unsigned always = 0x7000;
+    if (has_profile(loop)) always |= KEXBARDI_M1_PROFILE;
     if (processes[loop - 1].reverse) always |= 1 << 4;
     if (loop % 4 == 0) always |= 1 << 5;
     else if (loop % 4 == 1) always |= 1 << 3;
@@ -63,6 +69,17 @@ static unsigned mode_1(unsigned loop, unsigned request) {
 
 /* A setpoint between a quarter and three quarters of full scale. */
 static unsigned setpoint(unsigned full) { return full / 4 + any(full / 2); }
+
+/* Ramps of 0.1 % of full scale a second between setpoints, soaks of half a minute to three minutes. */
+static void fill_table(unsigned table, unsigned full) {
+    for (unsigned n = 1; n <= KEXBARDI_SEGMENTS; n += 2) {
+        unsigned ramp = table + KEXBARDI_SEGMENT(n), soak = table + KEXBARDI_SEGMENT(n + 1);
+        store(ramp + KEXBARDI_END, setpoint(full));
+        store(ramp + KEXBARDI_SLOPE, bcd(full / 10));
+        store(soak + KEXBARDI_DURATION, bcd(5 + any(26)));
+        store(soak + KEXBARDI_DEVIATION, full / 200);
+    }
+}
 
 static void settle(unsigned loop) {
     static const unsigned mode_2s[] = {0, 2, 512}, full_scales[] = {4095, 32767, 65535};
@@ -89,6 +106,11 @@ static void settle(unsigned loop) {
     store(base + KEXBARDI_OUTPUT_HIGH, full - loop % 2 * full / 20);
     store(base + KEXBARDI_POINTER, MASTER);
     store(base + KEXBARDI_MODE_1, mode_1(loop, 1));
+    if (has_profile(loop)) {
+        store(base + KEXBARDI_PROFILE_TABLE, KEXBARDI_TABLE_FIRST + KEXBARDI_TABLE_WORDS * (loop - 1));
+        fill_table(KEXBARDI_TABLE_FIRST + KEXBARDI_TABLE_WORDS * (loop - 1), full);
+        store(base + KEXBARDI_PROFILE_FLAGS, KEXBARDI_P_START);
+    }
 }
 
 /* The raw PV after a twentieth of a second: the lag, and noise of a few counts. */
@@ -100,7 +122,20 @@ static uint16_t measure(unsigned loop) {
     return (uint16_t)(raw < 0 ? 0 : raw > process->full ? process->full : raw);
 }
 
-/* Once in about five minutes of a loop: a setpoint, a gain, a mode, an output by hand. */
+/* A profile that has ended gets new ends and durations and is started again; a held one goes on. */
+static void command(unsigned loop) {
+    unsigned base = KEXBARDI_ADDRESS(loop, 0), flags = ours.words[base + KEXBARDI_PROFILE_FLAGS];
+    if (KEXBARDI_P_SEGMENT(flags) == 0) {
+        fill_table(ours.words[base + KEXBARDI_PROFILE_TABLE], (unsigned)processes[loop - 1].full);
+        store(base + KEXBARDI_PROFILE_FLAGS, KEXBARDI_P_START);
+    } else if (flags & KEXBARDI_P_HELD) {
+        store(base + KEXBARDI_PROFILE_FLAGS, KEXBARDI_P_RESUME);
+    } else if (any(3) == 0) {
+        store(base + KEXBARDI_PROFILE_FLAGS, any(2) ? KEXBARDI_P_HOLD : KEXBARDI_P_JOG);
+    }
+}
+
+/* Once in about five minutes of a loop: a setpoint, a gain, a mode, an output by hand, and a profile's command. */
 static void instruct(unsigned loop) {
     unsigned base = KEXBARDI_ADDRESS(loop, 0), full = (unsigned)processes[loop - 1].full, word = ours.words[base + KEXBARDI_MODE_1];
     switch (any(8)) {
@@ -111,20 +146,46 @@ static void instruct(unsigned loop) {
     case 6: store(base + KEXBARDI_MODE_1, word | 4); break;
     default: store(MASTER, setpoint(4095)); break;
     }
+    if (has_profile(loop)) command(loop);
 }
 
 static void compare(long at) {
     if (memcmp(ours.words, plain.words, sizeof ours.words) != 0) fail(at, "the words differ");
     if (memcmp(ours.records, plain.records, sizeof ours.records) != 0) fail(at, "the records differ");
+    for (unsigned loop = 1; loop <= KEXBARDI_LOOPS; loop++) {
+        uint64_t a = 0, b = 0;
+        uint8_t refusal = kexbardi_forecast(ours.words, KEXBARDI_WORDS, ours.records, KEXBARDI_NUMBERS, loop, &a);
+        if (refusal != plain_forecast(plain.words, KEXBARDI_WORDS, plain.records, KEXBARDI_NUMBERS, loop, &b) || a != b)
+            fail(at, "the forecasts differ");
+        if (refusal != 0) fail(at, "a forecast is refused");
+        int running = ours.records[KEXBARDI_FIELDS * (loop - 1) + KEXBARDI_FIELD_SEGMENT] > 0;
+        if ((a > 0) != running) fail(at, "a forecast and no profile, or a profile and no forecast");
+    }
 }
 
 static void sample(long at, unsigned loop) {
     uint16_t raw = measure(loop);
+    const uint16_t *flags = ours.words + KEXBARDI_ADDRESS(loop, KEXBARDI_PROFILE_FLAGS);
+    unsigned before = KEXBARDI_P_SEGMENT(*flags);
     uint8_t a = kexbardi_sample(ours.words, KEXBARDI_WORDS, ours.records, KEXBARDI_NUMBERS, loop, raw, ours.line);
     uint8_t b = plain_sample(plain.words, KEXBARDI_WORDS, plain.records, KEXBARDI_NUMBERS, loop, raw, plain.line);
     if (a != b) fail(at, "the answers differ");
     if (a != 0) fail(at, "both refuse");
     if (memcmp(ours.line, plain.line, sizeof ours.line) != 0) fail(at, "the lines differ");
+    in_segment[KEXBARDI_P_SEGMENT(*flags)]++;
+    completed[loop - 1] += before > 0 && *flags & KEXBARDI_P_COMPLETE;
+}
+
+/* Every profile came to its end at least once, and every segment had its time. */
+static void check_profiles(void) {
+    long all = 0;
+    for (unsigned loop = 1; loop <= KEXBARDI_LOOPS; loop++) {
+        all += completed[loop - 1];
+        if (has_profile(loop) != (completed[loop - 1] > 0)) fail(SAMPLES, "the profiles do not come to their end");
+    }
+    for (unsigned n = 1; n <= KEXBARDI_SEGMENTS; n++)
+        if (in_segment[n] == 0) fail(SAMPLES, "a segment is never reached");
+    printf("%ld profiles completed\n", all);
 }
 
 int main(void) {
@@ -143,6 +204,7 @@ int main(void) {
         if (at % 1000 == 999) compare(at + 1);
     }
     compare(SAMPLES);
+    check_profiles();
     printf("%ld of them within 1 %% of the setpoint\n", near);
     if (near < SAMPLES / 2) fail(SAMPLES, "the loops do not control");
     printf("%ld samples: equal\n", SAMPLES);

@@ -3,6 +3,7 @@ use Prim.Native.Nat.{ℕ, _+_, _-_, _*_}
 use mathlib.Core.Bool.{Bool, cond, not, _&&_, _||_}
 use mathlib.Core.List.{List, [], _∷_}
 use lib.Dec.{ltb, eqb}
+use Rattle.numbers.specs.Distances.{apart}
 use Rattle.table.specs.declared.mode.Mode.{Mode}
 use Rattle.table.specs.declared.settings.Mode1.{Mode1}
 use Rattle.table.specs.declared.settings.AlarmLimits.{AlarmLimits}
@@ -23,10 +24,6 @@ highAlarm was limit hysteresis x = ltb limit x || (was && ltb limit (x + hystere
 -- B2: on where x is smaller than the limit. B3: one that was on stays while x is smaller than limit + hysteresis
 abbrev pub lowAlarm : Bool → ℕ → ℕ → ℕ → Bool
 lowAlarm was limit hysteresis x = ltb x limit || (was && ltb x (limit + hysteresis))
-
--- |a − b|
-unfoldable pub apart : ℕ → ℕ → ℕ
-apart a b = cond (ltb a b) (b - a) (a - b)
 
 -- B6: bit 10, where the settings of watched alarms contradict each other
 abbrev pub unordered : Mode1 → AlarmLimits → Bool

@@ -4,7 +4,7 @@ use table::Mode1;
 use table::OutputLimits;
 ghost use mathlib.Core.Path.{_≡_};
 ghost use mathlib.Core.Bool.{cond};
-ghost use Rattle.alarms.specs.Status.{highAlarm, lowAlarm, apart, unordered, atLimit};
+ghost use Rattle.alarms.specs.Status.{highAlarm, lowAlarm, unordered, atLimit};
 ghost use Rattle.alarms.specs.Sums.{Valued};
 
 // B3: what the hold adds, the hysteresis of an alarm that was on.
@@ -26,13 +26,6 @@ pub(crate) fn low_alarm(was: bool, limit: u16, hysteresis: u16, x: u16) -> bool
     ensures { λ r. ⌜ r ≡ lowAlarm was limit hysteresis x ⌝ }
 {
     (x as u32) < limit as u32 + margin(was, hysteresis)
-}
-
-// |a − b|.
-pub(crate) fn distance(a: u16, b: u16) -> u16
-    ensures { λ r. ⌜ r ≡ apart a b ⌝ }
-{
-    if a < b { b - a } else { a - b }
 }
 
 // B6: the settings of watched alarms contradict each other.

@@ -1,9 +1,9 @@
 // The status word and its twelve bits.
 use crate::alarm::contradiction;
-use crate::alarm::distance;
 use crate::alarm::high_alarm;
 use crate::alarm::low_alarm;
 use crate::alarm::saturated;
+use numbers::distance;
 use table::AlarmLimits;
 use table::Mode;
 use table::Mode1;
@@ -11,7 +11,8 @@ use table::OutputLimits;
 use table::is_manual;
 ghost use mathlib.Core.Path.{_≡_};
 ghost use mathlib.Core.Bool.{cond};
-ghost use Rattle.alarms.specs.Status.{apart, wordOf, bitsOf, statusOf};
+ghost use Rattle.numbers.specs.Distances.{apart};
+ghost use Rattle.alarms.specs.Status.{wordOf, bitsOf, statusOf};
 ghost use Rattle.alarms.specs.Sums.{Valued, flagOf, modeBit, levelBits, deviationBits};
 
 // What the status word tells of one sample.

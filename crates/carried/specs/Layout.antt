@@ -9,6 +9,7 @@ use lib.Signed.{ltZ}
 use Rattle.table.specs.declared.mode.Mode.{Mode}
 use Rattle.table.specs.declared.mode.Mode.the-variants.{Manual, Automatic, Cascade}
 use Rattle.table.specs.Words.{any}
+use Rattle.profile.specs.declared.state.Profile.{Profile}
 use Rattle.carried.specs.declared.record.Carried.{Carried}
 pub mod Laws
 
@@ -22,7 +23,8 @@ infix 20 _to_
 abbrev pub _to_ : ℤ → ℤ → Range
 low to high = record { low = low; high = high }
 
--- H1: mode; bias and output in units; the last PV and the one before; error; form; whether a sample was accepted
+-- H1: mode; bias and output in units; the last PV and the one before; error; form; whether a sample was accepted; and of the profile segment, hold,
+-- completion, fraction and time
 abbrev pub ranges : List Range
 ranges =
     (pos 0 to pos 2)
@@ -33,6 +35,11 @@ ranges =
     ∷ (negℤ (pos 65535) to pos 65535)
     ∷ (pos 0 to pos 1)
     ∷ (pos 0 to pos 1)
+    ∷ (pos 0 to pos 16)
+    ∷ (pos 0 to pos 1)
+    ∷ (pos 0 to pos 1)
+    ∷ (pos 0 to pos 9999)
+    ∷ (pos 0 to pos 6000000)
     ∷ []
 
 -- H1: how many numbers a record has
@@ -60,7 +67,7 @@ modeNumber Manual = 0
 modeNumber Automatic = 1
 modeNumber Cascade = 2
 
--- H1: the number of a form and of `sampled`
+-- H1: the number of a form, of `sampled`, of a hold and of completion
 abbrev pub flag : Bool → ℤ
 flag on = cond on (pos 1) (pos 0)
 
@@ -75,6 +82,11 @@ numbersOf c =
     ∷ c .past .error
     ∷ flag (c .state .velocity)
     ∷ flag (c .sampled)
+    ∷ pos (c .state .profile .segment)
+    ∷ flag (c .state .profile .hold)
+    ∷ flag (c .state .profile .complete)
+    ∷ pos (c .state .profile .fraction)
+    ∷ pos (c .state .profile .time)
     ∷ []
 
 -- ---- and back, from numbers in range
@@ -87,21 +99,37 @@ modeFrom n = cond (ltZ n (pos 1)) Manual (cond (ltZ n (pos 2)) Automatic Cascade
 abbrev pub flagFrom : ℤ → Bool
 flagFrom n = ltZ (pos 0) n
 
+-- H1: the profile that such numbers are
+unfoldable pub profileFrom : List ℤ → Profile
+profileFrom ns =
+    let at : ℕ → ℤ = λ i. getD ns i (pos 0) in
+    record {
+      segment = natAbs (at 8);
+      hold = flagFrom (at 9);
+      complete = flagFrom (at 10);
+      fraction = natAbs (at 11);
+      time = natAbs (at 12);
+    }
+
 -- H1: the record that such numbers are
 unfoldable pub recordFrom : List ℤ → Carried
 recordFrom ns =
     let at : ℕ → ℤ = λ i. getD ns i (pos 0) in
     record {
-      state = record { mode = modeFrom (at 0); velocity = flagFrom (at 6) };
+      state = record { mode = modeFrom (at 0); velocity = flagFrom (at 6); profile = profileFrom ns };
       drive = record { bias = at 1; output = at 2 };
       past = record { last = natAbs (at 3); prior = natAbs (at 4); error = at 5 };
       sampled = flagFrom (at 7);
     }
 
--- H3: at reset Manual, position form, no sample accepted, and all else 0
+-- H3: at reset Manual, position form, no sample accepted, no profile, and all else 0
 unfoldable pub resetRecord : Carried
 resetRecord = record {
-  state = record { mode = Manual; velocity = false };
+  state = record {
+    mode = Manual;
+    velocity = false;
+    profile = record { segment = 0; hold = false; complete = false; fraction = 0; time = 0 };
+  };
   drive = record { bias = pos 0; output = pos 0 };
   past = record { last = 0; prior = 0; error = pos 0 };
   sampled = false;

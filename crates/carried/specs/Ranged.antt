@@ -2,6 +2,7 @@
 use Prim.Native.Nat.{_*_, _^_, _≤_}
 use lib.IntN.{pos, natAbs}
 use lib.Signed.{_≤ℤ_}
+use Rattle.profile.specs.Moves.Laws.{Within}
 use Rattle.carried.specs.declared.record.Carried.{Carried}
 
 pub record Ranged (c : Carried) : Type 0 where
@@ -12,3 +13,4 @@ pub record Ranged (c : Carried) : Type 0 where
   pub error : natAbs (c .past .error) ≤ 65535
   pub last : c .past .last ≤ 65535
   pub prior : c .past .prior ≤ 65535
+  pub profile : Within (c .state .profile)

@@ -4,6 +4,7 @@ use crate::record::Carried;
 use crate::record::Past;
 use crate::record::State;
 use control::Drive;
+use profile::Profile;
 use table::LOOPS;
 use table::Mode;
 ghost use mathlib.Core.Path.{_≡_};
@@ -12,9 +13,9 @@ ghost use Prim.Native.Nat.{_+_, _≤_};
 ghost use lib.IntN.{pos};
 ghost use lib.ListN.{length};
 ghost use lib.Seq.{sets};
-ghost use Rattle.carried.specs.Layout.{modeNumber, flag, numbersOf, modeFrom, recordFrom, fieldCount, _to_, outsideRow, outOfRange, slotOf, numbersAt};
+ghost use Rattle.carried.specs.Layout.{modeNumber, flag, numbersOf, modeFrom, profileFrom, recordFrom, fieldCount, _to_, outsideRow, outOfRange, slotOf, numbersAt};
 
-pub const FIELDS: usize = 8; // numbers of a record
+pub const FIELDS: usize = 13; // numbers of a record
 
 pub const NUMBERS: usize = LOOPS as usize * FIELDS; // numbers of the buffer
 
@@ -35,7 +36,17 @@ const VELOCITY: usize = 6;
 
 const SAMPLED: usize = 7;
 
-// The ends of the ranges: a mode, a flag, a word, bias and output in units.
+const SEGMENT: usize = 8;
+
+const HOLD: usize = 9;
+
+const COMPLETE: usize = 10;
+
+const FRACTION: usize = 11;
+
+const TIME: usize = 12;
+
+// The ends of the ranges: a mode, a flag, a word, bias and output in units, and those of a profile.
 const CASCADE: i64 = 2;
 
 const ON: i64 = 1;
@@ -49,6 +60,12 @@ const LEAST_BIAS: i64 = -4503599627370496;
 const MOST_BIAS: i64 = 4503599627370496;
 
 const MOST_OUTPUT: i64 = 17179607040;
+
+const LAST_SEGMENT: i64 = 16;
+
+const MOST_FRACTION: i64 = 9999;
+
+const MOST_TIME: i64 = 6000000;
 
 fn mode_number(mode: Mode) -> i64
     ensures { λ r. ⌜ r ≡ pos (modeNumber mode) ⌝ }
@@ -97,6 +114,28 @@ pub fn out_of_range(n: [i64; FIELDS]) -> bool
         | outside(n[ERROR], LEAST_ERROR, WORD)
         | outside(n[VELOCITY], 0, ON)
         | outside(n[SAMPLED], 0, ON)
+        | outside(n[SEGMENT], 0, LAST_SEGMENT)
+        | outside(n[HOLD], 0, ON)
+        | outside(n[COMPLETE], 0, ON)
+        | outside(n[FRACTION], 0, MOST_FRACTION)
+        | outside(n[TIME], 0, MOST_TIME)
+}
+
+// The profile that numbers in range stand for.
+fn profile_of(n: [i64; FIELDS]) -> Profile
+    requires { ⌜ outOfRange n ≡ false ⌝ }
+    ensures { λ r. ⌜ r ≡ profileFrom n ⌝ }
+{
+    let segment = numbers::to_unsigned(n[SEGMENT]);
+    let fraction = numbers::to_unsigned(n[FRACTION]);
+    let time = numbers::to_unsigned(n[TIME]);
+    Profile {
+        segment: segment as u8,
+        hold: 0 < n[HOLD],
+        complete: 0 < n[COMPLETE],
+        fraction: fraction as u16,
+        time: time as u32,
+    }
 }
 
 // The record that numbers in range stand for.
@@ -107,10 +146,12 @@ pub fn record_of(n: [i64; FIELDS]) -> Carried
     let mode = mode_from(n[MODE]);
     let last = numbers::word_of(n[LAST_PV]);
     let prior = numbers::word_of(n[PRIOR_PV]);
+    let profile = profile_of(n);
     Carried {
         state: State {
             mode,
             velocity: 0 < n[VELOCITY],
+            profile,
         },
         drive: Drive {
             bias: n[BIAS],
@@ -134,6 +175,7 @@ pub fn numbers_of(c: Carried) -> [i64; FIELDS]
     let bias = c.drive.bias;
     let output = c.drive.output;
     let error = c.past.error;
+    let profile = state.profile;
     [
         mode_number(mode),
         bias,
@@ -143,6 +185,11 @@ pub fn numbers_of(c: Carried) -> [i64; FIELDS]
         error,
         flag_number(state.velocity),
         flag_number(c.sampled),
+        profile.segment as i64,
+        flag_number(profile.hold),
+        flag_number(profile.complete),
+        profile.fraction as i64,
+        profile.time as i64,
     ]
 }
 

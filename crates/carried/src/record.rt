@@ -1,11 +1,13 @@
 // The carried record (H1), by subject.
 use control::Drive;
+use profile::Profile;
 use table::Mode;
 
-// What A2 and A4 read of the samples before. The plain loop (E3) holds it as well.
+// What A2, A4 and the profile (G4 to G11) read of the samples before. The plain loop (E3) holds it as well.
 pub struct State {
     pub mode: Mode,
     pub velocity: bool, // the last form: velocity, else position
+    pub profile: Profile,
 }
 
 // The recorded PVs and error. `prior` is the PV before the last.

@@ -16,13 +16,13 @@ use Rattle.refusals.specs.Refusals.{numberOf, _⇒_, firstOf}
 use Rattle.refusals.specs.Refusals.Laws.{in-table, accepted-only}
 use Rattle.table.specs.declared.reading.Reading.{Reading}
 use Rattle.table.specs.Words.{any}
-use Rattle.carried.specs.Layout.{fieldCount, numberCount, slotOf, numbersAt, outOfRange}
+use Rattle.carried.specs.Layout.{fieldCount, numberCount, slotOf, numbersAt, recordAt, outOfRange}
 use Rattle.judging.specs.Judging.{readingCases}
-use Rattle.desk.specs.Desk.{Desk, lent, fittingOf, noLoop, resetAnswer, resetLeft, engineWord, storeAnswer, storeLeft, readingAt, sampleAnswer, copiedBy, fieldsAnswer, fieldsLeft}
+use Rattle.desk.specs.Desk.{Desk, lent, fittingOf, noLoop, resetAnswer, resetLeft, engineWord, storeAnswer, storeLeft, readingAt, sampleAnswer, remainingOf, countedBy, forecastAt, copiedBy, fieldsAnswer, fieldsLeft}
 use Rattle.desk.specs.Desk.Laws.{sound, there-loop, answer-ranged, reset-sound, reset-numbers}
 use Rattle.desk.specs.Lists.{reset, store, sample, answerTo, deskAfter}
 use Rattle.desk.specs.Lists.Laws.{refused-call, unfit}
-use Rattle.kexbardi.specs.Interface.{lineLeft}
+use Rattle.kexbardi.specs.Interface.{lineLeft, toldBy}
 use Rattle.claims.specs.Calls.{Reserved, pv, bias, status, profile, Settled, Rows, Called}
 
 -- every answer is 0 or a number of N1 to N9
@@ -102,25 +102,26 @@ no-such-loop k wrong = go (ltb k 1) refl (ltb 16 k) refl
     go false e false f = absurd (wrong (ltb-false k 1 e, ltb-false 16 k f))
 
 -- one of the groups of N8 holds
-one-of : (modes times limits setpoint above : Bool) → (modes ≡ false → times ≡ false → limits ≡ false → setpoint ≡ false → ⊥)
-    → numberOf (firstOf ((modes ⇒ Setting) ∷ (times ⇒ Setting) ∷ (limits ⇒ Setting) ∷ (setpoint ⇒ Setting) ∷ (above ⇒ Above) ∷ [])) ≡ 8
-one-of true times limits setpoint above some = refl
-one-of false true limits setpoint above some = refl
-one-of false false true setpoint above some = refl
-one-of false false false true above some = refl
-one-of false false false false above some = absurd (some refl refl refl refl)
+one-of : (modes ends times limits setpoint above : Bool) → (modes ≡ false → ends ≡ false → times ≡ false → limits ≡ false → setpoint ≡ false → ⊥)
+    → numberOf (firstOf ((modes ⇒ Setting) ∷ (ends ⇒ Setting) ∷ (times ⇒ Setting) ∷ (limits ⇒ Setting) ∷ (setpoint ⇒ Setting) ∷ (above ⇒ Above) ∷ [])) ≡ 8
+one-of true ends times limits setpoint above some = refl
+one-of false true times limits setpoint above some = refl
+one-of false false true limits setpoint above some = refl
+one-of false false false true setpoint above some = refl
+one-of false false false false true above some = refl
+one-of false false false false false above some = absurd (some refl refl refl refl refl)
 
 module _ (r : Reading) (raw : ℕ) where
-  digit : r .settings .baddigit ≡ true → numberOf (firstOf (readingCases r raw)) ≡ 7
+  digit : (r .settings .baddigit || r .program .baddigit) ≡ true → numberOf (firstOf (readingCases r raw)) ≡ 7
   digit e = rw e
 
-  setting : r .settings .baddigit ≡ false → (Settled r → ⊥) → numberOf (firstOf (readingCases r raw)) ≡ 8
+  setting : (r .settings .baddigit || r .program .baddigit) ≡ false → (Settled r → ⊥) → numberOf (firstOf (readingCases r raw)) ≡ 8
   setting e some =
-      rw e (one-of _ _ _ _ (ltb (r .settings .mode2 .input .scale) raw)
-      (λ m t l s. some (record { digit = e; modes = m; times = t; limits = l; setpoint = s })))
+      rw e (one-of _ _ _ _ _ (ltb (r .settings .mode2 .input .scale) raw)
+      (λ m x t l s. some (record { digit = e; modes = m; ends = x; times = t; limits = l; setpoint = s })))
 
   too-high : Settled r → r .settings .mode2 .input .scale < raw → numberOf (firstOf (readingCases r raw)) ≡ 9
-  too-high p h = rw (p .digit, p .modes, p .times, p .limits, p .setpoint, lt-ltb (r .settings .mode2 .input .scale) raw h)
+  too-high p h = rw (p .digit, p .modes, p .ends, p .times, p .limits, p .setpoint, lt-ltb (r .settings .mode2 .input .scale) raw h)
 
 module _ (d : Desk) (k raw : ℕ) (fit : fittingOf d ≡ true) where
   no-loop : ((1 ≤ k) × (k ≤ 16) → ⊥) → numberOf (sampleAnswer d k raw) ≡ 4
@@ -135,6 +136,20 @@ module _ (d : Desk) (k raw : ℕ) (fit : fittingOf d ≡ true) where
         let a : sampleAnswer d k raw ≡ firstOf (readingCases (readingAt d k) raw) = answer-ranged d k raw fit above below ∙ rw e in
         rw a (digit (readingAt d k) raw, setting (readingAt d k) raw, too-high (readingAt d k) raw);
   }
+
+-- ---- forecasts
+
+-- by the answer to the sample
+told-by : (a : Answer) (n samples : ℕ) → let t = toldBy (countedBy a n) samples in
+    (t .number ≡ numberOf a) × (t .number ≡ 0 → t .samples ≡ n) × (0 < t .number → t .samples ≡ samples)
+told-by Accepted n samples = (refl, λ _. refl, λ h. absurd (omega arith))
+told-by (Refused why) n samples = (refl, λ e. absurd (omega (arith, in-table why)), λ _. refl)
+
+forecasts : (d : Desk) (k samples : ℕ) → let t = toldBy (forecastAt d k) samples in
+    (t .number ≡ numberOf (sampleAnswer d k 0)) × (t .number ≡ 0 → t .samples ≡ remainingOf (d .words) k (recordAt (d .numbers) k))
+    × (0 < t .number → t .samples ≡ samples)
+unfolding forecastAt
+forecasts d k samples = told-by (sampleAnswer d k 0) (remainingOf (d .words) k (recordAt (d .numbers) k)) samples
 
 -- ---- a record copied out
 
@@ -182,9 +197,11 @@ called = record {
   unstored = λ d address fit. (beyond d address fit, kept d address fit);
   resets = cleared;
   copies = fields-copied;
+  foretells = λ d k samples. let t = forecasts d k samples in (t .0, t .1);
   reset = λ d h. refused-call d reset h;
   store = λ d address value h. refused-call d (store address value) h;
   sample = λ d k raw line h. (refused-call d (sample k raw) h, sample-left d k raw line h);
   uncopied = fields-refused;
+  forecast = λ d k samples. forecasts d k samples .2;
   fields = fields-left;
 }

@@ -16,20 +16,19 @@ use Rattle.refusals.specs.Refusals.Laws.{accepted-only, accepted-rest}
 use Rattle.table.specs.declared.reading.Reading.{Reading}
 use Rattle.table.specs.Words.{baseOf, blockAt}
 use Rattle.table.specs.Words.Laws.{block-at}
-use Rattle.table.specs.Reading.{readingOf}
 use Rattle.table.specs.Reading.Laws.{numbered, reading-local}
 use Rattle.carried.specs.declared.record.Carried.{Carried}
 use Rattle.carried.specs.Layout.{slotOf, outOfRange, recordFrom, numbersOf, numbersAt, recordAt}
 use Rattle.judging.specs.Judging.{readingCases, Passed}
 use Rattle.judging.specs.Judging.Laws.{passed, passing}
 use Rattle.engine.specs.declared.stepping.Stepped.{Stepped}
-use Rattle.engine.specs.Sensing.{setpointOf, targetOf, sensedOf}
+use Rattle.engine.specs.Sensing.{setpointOf, targetOf, profiledOf, flagsAfter, faultAfter, sensedOf}
 use Rattle.engine.specs.Driving.{drivenOf}
 use Rattle.engine.specs.Writing.{statusWord, writtenOf}
 use Rattle.engine.specs.Writing.Laws.{written-length, written-other, written-there, written-block}
 use Rattle.engine.specs.Steps.{stepOf}
 use Rattle.reader.specs.File.{recordsOf}
-use Rattle.desk.specs.Desk.{Desk, fittingOf, memoryCases, loopCases, leftBy, readingAt, stepAt, sampleDone, sampleAnswer, sampleLeft, lineOf}
+use Rattle.desk.specs.Desk.{Desk, fittingOf, memoryCases, loopCases, leftBy, readingBy, readingAt, stepAt, sampleDone, sampleAnswer, sampleLeft, lineOf}
 use Rattle.desk.specs.Desk.Laws.{fits, known-loop, sampled, own-numbers, other-numbers, answer-ranged}
 use Rattle.desk.specs.Lists.Laws.{by-answer, range-kept, range-behind}
 use Rattle.session.specs.Session.{begun as started, callsOf, leftOf}
@@ -46,7 +45,7 @@ acceptable d k raw a =
     let r = a .reading in
     let above = le-ltb (readingAt d k .settings .mode2 .input .scale) raw (a .below) in
     let p : Passed (readingAt d k) raw
-    = record { digit = r .digit; modes = r .modes; times = r .times; limits = r .limits; setpoint = r .setpoint; above = above } in
+    = record { digit = r .digit; modes = r .modes; ends = r .ends; times = r .times; limits = r .limits; setpoint = r .setpoint; above = above } in
     let e : sampleAnswer d k raw ≡ Accepted = answer-ranged d k raw (a .memory) (a .loop .0) (a .loop .1) ∙ rw (a .carried) (passing (readingAt d k) raw p) in
     ap numberOf e
 
@@ -62,7 +61,7 @@ only-then d k raw z =
       memory = fits d (p .0);
       loop = (loop .above, loop .below);
       carried = loop .range;
-      reading = record { digit = r .digit; modes = r .modes; times = r .times; limits = r .limits; setpoint = r .setpoint };
+      reading = record { digit = r .digit; modes = r .modes; ends = r .ends; times = r .times; limits = r .limits; setpoint = r .setpoint };
       below = ltb-false _ _ (r .above);
     }
 
@@ -74,7 +73,7 @@ exactly d k raw e =
     let a = accepted-only (sampleAnswer d k raw) e in
     let s = sampled d k raw a in
     let w = written-there (d .words) (baseOf k) (stepAt d k raw .written) (omega (arith, s .memory .words, s .above, s .below)) in
-    rw a (record { word = w .word; setpoint = w .setpoint; pv = w .pv; bias = w .bias; output = w .output; status = w .status; numbers = own-numbers d k raw s })
+    rw a (record { word = w .word; setpoint = w .setpoint; pv = w .pv; bias = w .bias; output = w .output; status = w .status; flags = w .flags; fault = w .fault; numbers = own-numbers d k raw s })
 
 line-shown : (d : Desk) (k raw : ℕ) (line : List ℕ) → numberOf (sampleAnswer d k raw) ≡ 0 → lineLeft d k raw line ≡ lineOf (sampleLeft d k raw .words) k
 unfolding lineLeft
@@ -85,7 +84,7 @@ unfolding sampleLeft sampleDone
 words-kept d k raw i o =
     by-answer (λ (e : Desk). getD (e .words) i 0 ≡ getD (d .words) i 0) (sampleAnswer d k raw)
     (λ _. written-other (d .words) (baseOf k) (stepAt d k raw .written) i
-    (record { mode = o .mode; setpoint = o .setpoint; pv = o .pv; bias = o .bias; output = o .output; status = o .status })) refl
+    (record { mode = o .mode; setpoint = o .setpoint; pv = o .pv; bias = o .bias; output = o .output; status = o .status; flags = o .flags; fault = o .fault })) refl
 
 records-kept : (d : Desk) (k raw j : ℕ) → 1 ≤ j → (j ≡ k → ⊥) → numbersAt (sampleLeft d k raw .numbers) (slotOf j) ≡ numbersAt (d .numbers) (slotOf j)
 unfolding sampleLeft
@@ -111,7 +110,7 @@ line-block ws ws′ k k′ e =
 
 -- a step does not look at the loop's number
 step-numbered : (k : ℕ) (r : Reading) (c : Carried) (raw : ℕ) → stepOf (numbered k r) c raw ≡ stepOf r c raw
-unfolding stepOf sensedOf targetOf setpointOf drivenOf writtenOf statusWord
+unfolding stepOf sensedOf targetOf setpointOf profiledOf flagsAfter faultAfter drivenOf writtenOf statusWord
 step-numbered k r c raw = refl
 
 module _ (d d′ : Desk) (k k′ raw : ℕ) (agree : Agree d d′ k k′) where
@@ -120,8 +119,9 @@ module _ (d d′ : Desk) (k k′ raw : ℕ) (agree : Agree d d′ k k′) where
 
   reading-same : readingAt d k ≡ numbered k (readingAt d′ k′)
   reading-same =
-      reading-local (d .words) (d′ .words) k k′ (recordAt (d .numbers) k .state .mode) (agree .words) (agree .pointed)
-      ∙ ap (λ (c : Carried). numbered k (readingOf (d′ .words) k′ (c .state .mode))) carried-same
+      let state = recordAt (d .numbers) k .state in
+      reading-local (d .words) (d′ .words) k k′ (state .mode) (state .profile .segment) (agree .words) (agree .pointed) (agree .table)
+      ∙ ap (λ (c : Carried). numbered k (readingBy (d′ .words) k′ c)) carried-same
 
   answer-same : sampleAnswer d k raw ≡ sampleAnswer d′ k′ raw
   answer-same =

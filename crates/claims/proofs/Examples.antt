@@ -1,10 +1,11 @@
 -- The computed examples of the crates below, named here so that none of them can go unnoticed.
 use mathlib.Core.Path.{_≡_}
-use mathlib.Core.List.{[], _∷_, map}
+use mathlib.Core.List.{[], _∷_, _++_, map}
 use Rattle.carried.specs.Layout.{recordAt}
 use Rattle.reader.specs.File.{recordsOf}
 use Rattle.reader.proofs.Examples as reader
 use Rattle.judging.proofs.Examples as judging
+use Rattle.profile.proofs.Examples as profile
 use Rattle.engine.proofs.Starred as starred
 use Rattle.plain.specs.Plain.{begun}
 use Rattle.plain.proofs.Examples as plain
@@ -18,8 +19,12 @@ pub records-read : recordsOf reader.file ≡ map (λ (c : reader.Case). c .item)
 records-read = reader.all-cases .0
 
 -- N7 to N9 at their edges
-pub settings-judged : map judging.answer judging.cases ≡ map (λ (c : judging.Case). c .number) judging.cases
+pub settings-judged : let cases = judging.cases ++ judging.tables in map judging.answer cases ≡ map (λ (c : judging.Case). c .number) cases
 settings-judged = judging.computed
+
+-- G4 to G12: a profile, sample by sample
+pub profile-moved : profile.rows profile.fresh 0 profile.oven ≡ profile.expected profile.oven
+profile-moved = profile.computed
 
 -- X1 to X3, one claim
 pub starred-cases : map starred.given starred.starred ≡ map (λ (x : starred.Case). x .answers) starred.starred

@@ -9,7 +9,7 @@ use Rattle.refusals.specs.declared.Answer.{Answer}
 use Rattle.refusals.specs.declared.Answer.the-variants.{Accepted, Refused}
 use Rattle.carried.specs.Layout.Laws.{read-back, rows-in, in-rows}
 use Rattle.plain.specs.Plain.{Plain}
-use Rattle.desk.specs.Desk.{Desk}
+use Rattle.desk.specs.Desk.{Desk, remainingOf}
 use Rattle.desk.specs.Desk.Laws.{reset-numbers}
 use Rattle.desk.specs.Lists.{store, sample, answerTo, deskAfter, deskBehind, fedBy, fed, plainBehind}
 use Rattle.session.specs.Session.{runOf, callsOf}
@@ -68,7 +68,7 @@ module _ (k : ℕ) (q : Plain) (d : Desk) where
   }
 
 pub names : Names
-unfolding callsOf
+unfolding callsOf remainingOf
 names = record {
   places = places;
   calls = calls;
@@ -78,6 +78,8 @@ names = record {
   steps = λ d k raw. refl;
   line = λ ws k. refl;
   shown = λ ws k raw. refl;
+  remains = λ d k. refl;
+  table = λ ws k. refl;
   fresh = reset-numbers;
   room = λ file. (λ h. rw (le-ltb 65536 (length file) h), λ h. rw (lt-ltb 65536 (length file) h));
 }

@@ -1,7 +1,7 @@
--- What every direct call (Q1 to Q4) answers and leaves, on memory of any lengths.
+-- What every direct call (Q1 to Q4, Q11) answers and leaves, on memory of any lengths.
 use Prim.Native.Nat.{ℕ, _%_, _≤_, _<_}
 use mathlib.Core.Path.{_≡_}
-use mathlib.Core.Bool.{true, false}
+use mathlib.Core.Bool.{true, false, _||_}
 use mathlib.Core.List.{List}
 use lib.IntN.{ℤ, pos}
 use lib.ListN.{length, set, replicate}
@@ -10,11 +10,11 @@ use Rattle.refusals.specs.declared.Answer.the-variants.{Accepted}
 use Rattle.refusals.specs.Refusals.{numberOf}
 use Rattle.table.specs.declared.reading.Reading.{Reading}
 use Rattle.table.specs.Modes.{isCascade}
-use Rattle.carried.specs.Layout.{fieldCount, numberCount, slotOf, numbersAt, outOfRange}
+use Rattle.carried.specs.Layout.{fieldCount, numberCount, slotOf, numbersAt, recordAt, outOfRange}
 use Rattle.judging.specs.Judging.{badModes, badTimes, badLimits, badSetpoint}
-use Rattle.desk.specs.Desk.{Desk, lent, fittingOf, resetAnswer, resetLeft, storeAnswer, storeLeft, readingAt, sampleAnswer, sampleLeft, fieldsAnswer, fieldsLeft}
+use Rattle.desk.specs.Desk.{Desk, lent, fittingOf, resetAnswer, resetLeft, storeAnswer, storeLeft, readingAt, sampleAnswer, sampleLeft, remainingOf, forecastAt, fieldsAnswer, fieldsLeft}
 use Rattle.desk.specs.Lists.{Call, answerTo}
-use Rattle.kexbardi.specs.Interface.{lineLeft}
+use Rattle.kexbardi.specs.Interface.{lineLeft, toldBy}
 
 -- N6: the words of a loop that no store reaches
 pub data Reserved : ℕ → Type 0 where
@@ -25,8 +25,9 @@ pub data Reserved : ℕ → Type 0 where
 
 -- what a sample reads passes N7 and each group of N8
 pub record Settled (r : Reading) : Type 0 where
-  pub digit : r .settings .baddigit ≡ false
+  pub digit : (r .settings .baddigit || r .program .baddigit) ≡ false
   pub modes : badModes (r .settings .mode1) (r .settings .mode2 .unused) (r .settings .alarms .hysteresis) ≡ false
+  pub ends : r .program .highend ≡ false
   pub times : badTimes (r .settings .tuning) ≡ false
   pub limits : badLimits (r .settings .limits) (r .settings .mode2 .output .scale) ≡ false
   pub setpoint : badSetpoint (isCascade (r .mode)) (r .settings .mode2 .input .scale) (r .settings .stored .setpoint) (r .settings .pointer) (r .remote) ≡ false
@@ -36,8 +37,8 @@ pub record Rows (d : Desk) (k raw : ℕ) : Type 0 where
   pub loop : ((1 ≤ k) × (k ≤ 16) → ⊥) → numberOf (sampleAnswer d k raw) ≡ 4
   pub carried : 1 ≤ k → k ≤ 16 → outOfRange (numbersAt (d .numbers) (slotOf k)) ≡ true → numberOf (sampleAnswer d k raw) ≡ 5
   pub reading : 1 ≤ k → k ≤ 16 → outOfRange (numbersAt (d .numbers) (slotOf k)) ≡ false → let r = readingAt d k in
-      (r .settings .baddigit ≡ true → numberOf (sampleAnswer d k raw) ≡ 7)
-      × (r .settings .baddigit ≡ false → (Settled r → ⊥) → numberOf (sampleAnswer d k raw) ≡ 8)
+      ((r .settings .baddigit || r .program .baddigit) ≡ true → numberOf (sampleAnswer d k raw) ≡ 7)
+      × ((r .settings .baddigit || r .program .baddigit) ≡ false → (Settled r → ⊥) → numberOf (sampleAnswer d k raw) ≡ 8)
       × (Settled r → r .settings .mode2 .input .scale < raw → numberOf (sampleAnswer d k raw) ≡ 9)
 
 pub record Called : Type 0 where
@@ -62,9 +63,13 @@ pub record Called : Type 0 where
   pub uncopied : (ns : List ℤ) (k : ℕ) → ((length ns ≡ numberCount → ⊥) → numberOf (fieldsAnswer ns k) ≡ 5)
       × (length ns ≡ numberCount → ((1 ≤ k) × (k ≤ 16) → ⊥) → numberOf (fieldsAnswer ns k) ≡ 4)
       × (length ns ≡ numberCount → 1 ≤ k → k ≤ 16 → outOfRange (numbersAt ns (slotOf k)) ≡ true → numberOf (fieldsAnswer ns k) ≡ 5)
+  -- Q11: a forecast is refused as a sample with raw PV 0 is; else it counts the samples that remain
+  pub foretells : (d : Desk) (k samples : ℕ) → let t = toldBy (forecastAt d k) samples in
+      (t .number ≡ numberOf (sampleAnswer d k 0)) × (t .number ≡ 0 → t .samples ≡ remainingOf (d .words) k (recordAt (d .numbers) k))
   -- Q8: one that is refused leaves all that was lent to it
   pub reset : (d : Desk) → 0 < numberOf (resetAnswer d) → resetLeft d ≡ d
   pub store : (d : Desk) (address value : ℕ) → 0 < numberOf (storeAnswer d address) → storeLeft d address value ≡ d
   pub sample : (d : Desk) (k raw : ℕ) (line : List ℕ) → 0 < numberOf (sampleAnswer d k raw)
       → (sampleLeft d k raw ≡ d) × (lineLeft d k raw line ≡ line)
+  pub forecast : (d : Desk) (k samples : ℕ) → let t = toldBy (forecastAt d k) samples in 0 < t .number → t .samples ≡ samples
   pub fields : (ns : List ℤ) (k : ℕ) (copied : List ℤ) → 0 < numberOf (fieldsAnswer ns k) → fieldsLeft ns k copied ≡ copied

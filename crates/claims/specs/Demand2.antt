@@ -1,6 +1,6 @@
 -- Demand 2. A sample is accepted exactly where no refusal holds (O3). Then every word and every number is as A1 to A12 define it: the loop's words
--- and its record change, and nothing else (Q3). What comes of a sample is a matter of the raw PV, the loop's 32 words, its record and the word that
--- Cascade follows (Q9): loop 9 set up like loop 1 answers alike. And a record in range never leaves its ranges, whatever is called (E8).
+-- and its record change, and nothing else (Q3). What comes of a sample is a matter of the raw PV, the loop's 32 words, its record, the word that
+-- Cascade follows and the 32 words of its ramp/soak table (Q9): loop 9 set up like loop 1 answers alike. And a record in range never leaves its ranges, whatever is called (E8).
 use Prim.Native.Nat.{ℕ, _+_, _≤_}
 use mathlib.Core.Path.{_≡_}
 use mathlib.Core.Bool.{true, false}
@@ -9,6 +9,7 @@ use lib.ListN.{length, getD}
 use Rattle.refusals.specs.Refusals.{numberOf}
 use Rattle.table.specs.Words.{baseOf, blockAt}
 use Rattle.table.specs.Modes.{isCascade}
+use Rattle.table.specs.Reading.{tableOf}
 use Rattle.carried.specs.Layout.{slotOf, outOfRange, numbersOf, numbersAt}
 use Rattle.desk.specs.Desk.{Desk, fittingOf, readingAt, stepAt, sampleAnswer, sampleLeft, lineOf}
 use Rattle.kexbardi.specs.Interface.{lineLeft}
@@ -23,7 +24,7 @@ pub record Acceptable (d : Desk) (k raw : ℕ) : Type 0 where
   pub reading : Settled (readingAt d k)
   pub below : raw ≤ readingAt d k .settings .mode2 .input .scale
 
--- A12: the address i is none of the six words that a sample of loop k writes: 0, 2, 3, 4, 5 and 6
+-- A12: the address i is none of the eight words that a sample of loop k writes: 0, 2, 3, 4, 5, 6, 27 and 29
 pub record Other (k i : ℕ) : Type 0 where
   pub mode : i ≡ baseOf k → ⊥
   pub setpoint : i ≡ baseOf k + 2 → ⊥
@@ -31,8 +32,10 @@ pub record Other (k i : ℕ) : Type 0 where
   pub bias : i ≡ baseOf k + 4 → ⊥
   pub output : i ≡ baseOf k + 5 → ⊥
   pub status : i ≡ baseOf k + 6 → ⊥
+  pub flags : i ≡ baseOf k + 27 → ⊥
+  pub fault : i ≡ baseOf k + 29 → ⊥
 
--- A1 to A12: e holds what they give for a sample of loop k on d: the loop's six words, and its record as numbers
+-- A1 to A12: e holds what they give for a sample of loop k on d: the loop's eight words, and its record as numbers
 pub record Done (d e : Desk) (k raw : ℕ) : Type 0 where
   pub word : getD (e .words) (baseOf k) 0 ≡ stepAt d k raw .written .word
   pub setpoint : getD (e .words) (baseOf k + 2) 0 ≡ stepAt d k raw .written .setpoint
@@ -40,6 +43,8 @@ pub record Done (d e : Desk) (k raw : ℕ) : Type 0 where
   pub bias : getD (e .words) (baseOf k + 4) 0 ≡ stepAt d k raw .written .bias
   pub output : getD (e .words) (baseOf k + 5) 0 ≡ stepAt d k raw .written .output
   pub status : getD (e .words) (baseOf k + 6) 0 ≡ stepAt d k raw .written .status
+  pub flags : getD (e .words) (baseOf k + 27) 0 ≡ stepAt d k raw .written .flags
+  pub fault : getD (e .words) (baseOf k + 29) 0 ≡ stepAt d k raw .written .fault
   pub numbers : numbersAt (e .numbers) (slotOf k) ≡ numbersOf (stepAt d k raw .carried)
 
 -- Q9: loop k of one desk and loop k′ of another agree on what a sample depends on
@@ -52,6 +57,7 @@ pub record Agree (d d′ : Desk) (k k′ : ℕ) : Type 0 where
   pub numbers : numbersAt (d .numbers) (slotOf k) ≡ numbersAt (d′ .numbers) (slotOf k′)
   pub pointed : isCascade (readingAt d k .mode) ≡ true
       → getD (d .words) (readingAt d k .settings .pointer) 0 ≡ getD (d′ .words) (readingAt d k .settings .pointer) 0
+  pub table : readingAt d k .program .on ≡ true → blockAt (d .words) (tableOf (d .words) k) ≡ blockAt (d′ .words) (tableOf (d .words) k)
 
 -- H5: the record of loop k is in range
 abbrev pub InRange : ℕ → Desk → Type 0

@@ -1,9 +1,9 @@
 -- What the names in the demands stand for, an equation each, so that no definition between them and the rest can change unnoticed. Left to be
 -- read where they stand: a sample's steps A1 to A12 (`stepOf`), what it reads (`readingOf`), the groups of N8, a record as numbers (`numbersOf`), the
--- plain loop's sample (`plainAfter`), and the text of a line.
+-- plain loop's sample (`plainAfter`), a forecast's count (`forecastOf`), and the text of a line.
 use Prim.Native.Nat.{ℕ, _+_, _-_, _*_, _≤_, _<_}
 use mathlib.Core.Path.{_≡_}
-use mathlib.Core.Bool.{false}
+use mathlib.Core.Bool.{false, cond}
 use mathlib.Core.List.{List, [], _∷_}
 use lib.IntN.{ℤ, pos}
 use lib.ListN.{length, getD, take, drop, replicate}
@@ -15,13 +15,14 @@ use Rattle.reader.specs.declared.Record.{Record}
 use Rattle.reader.specs.declared.Record.the-variants.{Store, Sample, Refused}
 use Rattle.reader.specs.File.{wordAt}
 use Rattle.table.specs.Words.{baseOf, blockAt}
-use Rattle.table.specs.Reading.{readingOf}
+use Rattle.table.specs.Reading.{tableOf, readingOf}
+use Rattle.profile.specs.Forecasts.{forecastOf}
 use Rattle.carried.specs.declared.record.Carried.{Carried}
 use Rattle.carried.specs.Layout.{fieldCount, numberCount, slotOf, outOfRange, numbersOf, recordFrom, numbersAt, recordAt}
 use Rattle.carried.specs.Layout.Laws.{Rows}
 use Rattle.engine.specs.Steps.{stepOf}
 use Rattle.plain.specs.Plain.{Plain, begun, plainAfter}
-use Rattle.desk.specs.Desk.{Desk, lent, resetDesk, resetAnswer, resetLeft, storeAnswer, storeLeft, readingAt, stepAt, sampleAnswer, sampleLeft, lineOf}
+use Rattle.desk.specs.Desk.{Desk, lent, resetDesk, resetAnswer, resetLeft, storeAnswer, storeLeft, readingAt, stepAt, sampleAnswer, sampleLeft, remainingOf, lineOf}
 use Rattle.desk.specs.Lists.{Call, reset, store, sample, answerTo, deskAfter, deskBehind, fed, plainBehind}
 use Rattle.session.specs.Session.{numberFor, leftFor, shownFor, runOf, callsOf}
 use Rattle.session.specs.Session.{begun as started}
@@ -33,7 +34,7 @@ pub record OfPlaces : Type 0 where
   pub word : (file : List ℕ) (at : ℕ) → wordAt file at ≡ getD file at 0 + 256 * getD file (at + 1) 0
   pub base : (k : ℕ) → baseOf k ≡ 32 * (k - 1)
   pub block : (ws : List ℕ) (at : ℕ) → blockAt ws at ≡ take 32 (drop at ws)
-  pub counts : (fieldCount ≡ 8) × (numberCount ≡ 128)
+  pub counts : (fieldCount ≡ 13) × (numberCount ≡ 208)
   pub slot : (k : ℕ) → slotOf k ≡ fieldCount * (k - 1)
   pub numbers : (ns : List ℤ) (at : ℕ) → numbersAt ns at ≡ take fieldCount (drop at ns)
   -- a record is read back as it was written, and is in range where each number stands in its row
@@ -56,7 +57,7 @@ pub record OfCalls (d : Desk) : Type 0 where
 -- E3: the plain loop of loop k beside them
 pub record OfPlain (k : ℕ) (q : Plain) (d : Desk) : Type 0 where
   pub refused : (call : Call) (why : Refusal) → answerTo d call ≡ No why → fed k q d call ≡ q
-  pub own : (raw : ℕ) → answerTo d (sample k raw) ≡ Accepted → fed k q d (sample k raw) ≡ plainAfter q (readingOf (d .words) k (q .state .mode)) raw
+  pub own : (raw : ℕ) → answerTo d (sample k raw) ≡ Accepted → fed k q d (sample k raw) ≡ plainAfter q (readingOf (d .words) k (q .state .mode) (q .state .profile .segment)) raw
   pub other : (j raw : ℕ) → (j ≡ k → ⊥) → fed k q d (sample j raw) ≡ q
   pub stored : (address value : ℕ) → fed k q d (store address value) ≡ q
   pub anew : answerTo d reset ≡ Accepted → fed k q d reset ≡ begun (recordAt (resetLeft d .numbers) k)
@@ -74,10 +75,16 @@ pub record Names : Type 0 where
       × ((k raw : ℕ) → callsOf (Sample k raw ∷ xs) ≡ sample k raw ∷ callsOf xs)
   pub beside : (k : ℕ) (q : Plain) (d : Desk) → OfPlain k q d
   -- Q3: a sample: what it reads, what it comes to, and what is shown of it
-  pub reads : (d : Desk) (k : ℕ) → readingAt d k ≡ readingOf (d .words) k (recordAt (d .numbers) k .state .mode)
+  pub reads : (d : Desk) (k : ℕ) → let state = recordAt (d .numbers) k .state in readingAt d k ≡ readingOf (d .words) k (state .mode) (state .profile .segment)
   pub steps : (d : Desk) (k raw : ℕ) → stepAt d k raw ≡ stepOf (readingAt d k) (recordAt (d .numbers) k) raw
   pub line : (ws : List ℕ) (k : ℕ) → let at : ℕ → ℕ = λ i. getD ws (baseOf k + i) 0 in lineOf ws k ≡ at 2 ∷ at 3 ∷ at 5 ∷ at 6 ∷ []
   pub shown : (ws : List ℕ) (k raw : ℕ) → shownFor ws (Sample k raw) ≡ lineOf ws k
+  -- G12: the samples that a forecast counts, of the table that word 28 points to
+  pub remains : (d : Desk) (k : ℕ) → let r = readingAt d k in
+      let p = recordAt (d .numbers) k .state .profile in
+      remainingOf (d .words) k (recordAt (d .numbers) k)
+      ≡ cond (r .program .on) (forecastOf (blockAt (d .words) (tableOf (d .words) k)) (r .settings .tuning .period) p (r .settings .stored .setpoint)) 0
+  pub table : (ws : List ℕ) (k : ℕ) → tableOf ws k ≡ getD ws (baseOf k + 28) 0
   -- H3: the desk at reset. Q6: the room that a print asks for
   pub fresh : resetDesk ≡ lent (replicate 1024 0) (replicate numberCount (pos 0))
   pub room : (file : List ℕ) → (length file ≤ 65536 → roomFor file ≡ 10 * length file + 100) × (65536 < length file → roomFor file ≡ 9)

@@ -1,5 +1,5 @@
 -- A C program's turns on a desk (E1): it writes anything into the words, and then makes a call, perhaps with memory of the wrong length. It leaves the
--- numbers to the calls. The calls that only show something (`kexbardi_record`, `kexbardi_print`) change no desk, and are no turns.
+-- numbers to the calls. The calls that only show something (`kexbardi_record`, `kexbardi_forecast`, `kexbardi_print`) change no desk, and are no turns.
 use Prim.Native.Nat.{ℕ}
 use mathlib.Core.Bool.{cond}
 use mathlib.Core.List.{List, [], _∷_, _++_}
@@ -17,7 +17,7 @@ pub data Made : Type 0 where
   one : Call → Made
   file : List ℕ → Made
 
--- E1: the words as the caller changes them, of any length; how many of the numbers are lent (128 for a sound call); the call
+-- E1: the words as the caller changes them, of any length; how many of the numbers are lent (208 for a sound call); the call
 pub record Turn : Type 0 where
   pub outside : List ℕ → List ℕ
   pub lending : ℕ

@@ -26,7 +26,7 @@ module _ (k : ℕ) (above : 1 ≤ k) where
   -- an accepted sample of loop k itself
   own : (d : Desk) (q : Plain) → Tied (recordAt (d .numbers) k) q → (raw : ℕ) → Sampled d k raw
       → let base = baseOf k in
-      let q′ = plainAfter q (readingOf (d .words) k (q .state .mode)) raw in
+      let q′ = plainAfter q (readingOf (d .words) k (q .state .mode) (q .state .profile .segment)) raw in
       Accurate (getD (d .words) (base + 24) 0) (getD (d .words) (base + 25) 0) (getD (sampleDone d k raw .words) (base + 5) 0) q′
       × Tied (recordAt (sampleDone d k raw .numbers) k) q′
   unfolding sampleDone
@@ -37,13 +37,13 @@ module _ (k : ℕ) (above : 1 ≤ k) where
       let word : getD (sampleDone d k raw .words) (base + 5) 0 ≡ stepAt d k raw .written .output
       = written-there (d .words) base (stepAt d k raw .written) (omega (arith, s .memory .words, s .above, s .below)) .output in
       let Goal : State → Type 0
-      = λ state. let q′ = plainAfter q (readingOf (d .words) k (state .mode)) raw in
+      = λ state. let q′ = plainAfter q (readingOf (d .words) k (state .mode) (state .profile .segment)) raw in
       Accurate (getD (d .words) (base + 24) 0) (getD (d .words) (base + 25) 0) (getD (sampleDone d k raw .words) (base + 5) 0) q′
       × Tied (recordAt (sampleDone d k raw .numbers) k) q′ in
       subst Goal (tied .state) (
         record {
-          low = rw (word, ← limit-low (d .words) k (c .state .mode)) (good .0 .inside .low);
-          high = rw (word, ← limit-high (d .words) k (c .state .mode)) (good .0 .inside .high);
+          low = rw (word, ← limit-low (d .words) k (c .state .mode) (c .state .profile .segment)) (good .0 .inside .low);
+          high = rw (word, ← limit-high (d .words) k (c .state .mode) (c .state .profile .segment)) (good .0 .inside .high);
           near = λ h. rw word (good .0 .near h);
         },
         rw (own-record d k raw s) (good .1),

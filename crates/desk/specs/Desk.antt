@@ -1,23 +1,32 @@
--- A desk, and each call on it (Q1 to Q4): its refusals in order (O3), its answer, and what it leaves. A refused call leaves the desk as it was (Q8).
+-- A desk, and each call on it (Q1 to Q4, Q11): its refusals in order (O3), its answer, and what it leaves. A refused call leaves the desk as it was (Q8).
 use Prim.Native.Nat.{ℕ, _+_, _%_}
-use mathlib.Core.Bool.{Bool, not, _&&_, _||_}
+use mathlib.Core.Bool.{Bool, cond, not, _&&_, _||_}
 use mathlib.Core.List.{List, [], _∷_, _++_, flatten}
 use lib.Dec.{ltb, eqb}
 use lib.IntN.{ℤ}
 use lib.ListN.{length, getD, set, replicate}
 use lib.Seq.{sets}
-use Rattle.refusals.specs.declared.Refusal.the-variants.{Loop, Memory, Record, Store}
+use Rattle.refusals.specs.declared.Refusal.the-variants.{Memory, Record, Store}
+use Rattle.refusals.specs.declared.Refusal.the-variants.{Loop as NoLoop}
 use Rattle.refusals.specs.declared.Answer.{Answer}
 use Rattle.refusals.specs.declared.Answer.the-variants.{Accepted, Refused}
 use Rattle.refusals.specs.Refusals.{Case, _⇒_, firstOf}
 use Rattle.table.specs.declared.reading.Reading.{Reading}
-use Rattle.table.specs.Words.{any, baseOf}
-use Rattle.table.specs.Reading.{readingOf}
+use Rattle.table.specs.Words.{any, baseOf, blockAt}
+use Rattle.table.specs.Reading.{tableOf, readingOf}
+use Rattle.profile.specs.Forecasts.{forecastOf}
+use Rattle.carried.specs.declared.record.Carried.{Carried}
 use Rattle.carried.specs.Layout.{numberCount, slotOf, outOfRange, numbersOf, numbersAt, recordAt, resetRecord}
 use Rattle.judging.specs.Judging.{readingCases}
 use Rattle.engine.specs.declared.stepping.Stepped.{Stepped}
 use Rattle.engine.specs.Writing.{writtenTo}
 use Rattle.engine.specs.Steps.{stepOf}
+use Rattle.desk.specs.declared.finding.Found.{Found}
+use Rattle.desk.specs.declared.finding.Found.the-variants.{Loop}
+use Rattle.desk.specs.declared.finding.Found.the-variants.{Refused as No}
+use Rattle.desk.specs.declared.forecasting.Foretold.{Foretold}
+use Rattle.desk.specs.declared.forecasting.Foretold.the-variants.{Samples}
+use Rattle.desk.specs.declared.forecasting.Foretold.the-variants.{Refused as None}
 pub mod Laws
 
 -- W1, H4: the lent words, and the lent numbers of the carried records
@@ -28,7 +37,7 @@ pub record Desk : Type 0 where
 abbrev pub lent : List ℕ → List ℤ → Desk
 lent ws ns = record { words = ws; numbers = ns }
 
--- N5: the lent memory has its lengths, 1,024 words and 128 numbers
+-- N5: the lent memory has its lengths, 1,024 words and 208 numbers
 unfoldable pub fittingOf : Desk → Bool
 fittingOf d = eqb (length (d .words)) 1024 && eqb (length (d .numbers)) numberCount
 
@@ -82,11 +91,22 @@ noLoop k = ltb k 1 || ltb 16 k
 
 -- N4; N5, where a number of the loop's record is out of range (H5)
 abbrev pub loopCases : List ℤ → ℕ → List Case
-loopCases ns k = (noLoop k ⇒ Loop) ∷ (outOfRange (numbersAt ns (slotOf k)) ⇒ Record) ∷ []
+loopCases ns k = (noLoop k ⇒ NoLoop) ∷ (outOfRange (numbersAt ns (slotOf k)) ⇒ Record) ∷ []
 
--- Q9: what the sample of loop k reads, the carried mode being that of its record
+-- O3: these three, before a word is read: refused, or the loop with its record
+abbrev pub foundBy : Answer → Carried → Found
+foundBy Accepted c = Loop c
+foundBy (Refused why) c = No why
+
+unfoldable pub foundAt : Desk → ℕ → Found
+foundAt d k = foundBy (firstOf (memoryCases d ++ loopCases (d .numbers) k)) (recordAt (d .numbers) k)
+
+-- Q9: what a sample of loop k reads, its carried mode and segment being those of its record c
+abbrev pub readingBy : List ℕ → ℕ → Carried → Reading
+readingBy ws k c = readingOf ws k (c .state .mode) (c .state .profile .segment)
+
 abbrev pub readingAt : Desk → ℕ → Reading
-readingAt d k = readingOf (d .words) k (recordAt (d .numbers) k .state .mode)
+readingAt d k = readingBy (d .words) k (recordAt (d .numbers) k)
 
 -- O3: N5, N4, N5, N7, N8 and N9, one list in this order
 abbrev pub sampleCases : Desk → ℕ → ℕ → List Case
@@ -116,6 +136,27 @@ judgedAnswer d k raw = firstOf (readingCases (readingAt d k) raw)
 
 abbrev pub judgedLeft : Desk → ℕ → ℕ → Desk
 judgedLeft d k raw = leftBy (judgedAnswer d k raw) (sampleDone d k raw) d
+
+-- ---- forecast
+
+-- G12: from word 2 and the carried profile; 0 where there is no program
+unfoldable pub remainingOf : List ℕ → ℕ → Carried → ℕ
+remainingOf ws k c =
+    let r = readingBy ws k c in
+    cond (r .program .on)
+    (forecastOf (blockAt ws (tableOf ws k)) (r .settings .tuning .period) (c .state .profile) (r .settings .stored .setpoint)) 0
+
+abbrev pub countedBy : Answer → ℕ → Foretold
+countedBy Accepted n = Samples n
+countedBy (Refused why) n = None why
+
+-- Q11: refused as a sample with raw PV 0 is; else the samples that remain
+unfoldable pub forecastAt : Desk → ℕ → Foretold
+forecastAt d k = countedBy (sampleAnswer d k 0) (remainingOf (d .words) k (recordAt (d .numbers) k))
+
+-- the same past N5, N4 and N5
+unfoldable pub foretoldOf : List ℕ → ℕ → Carried → Foretold
+foretoldOf ws k c = countedBy (firstOf (readingCases (readingBy ws k c) 0)) (remainingOf ws k c)
 
 -- ---- what is shown of a loop
 

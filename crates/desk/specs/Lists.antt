@@ -46,7 +46,7 @@ abbrev pub fedBy : ℕ → Plain → Desk → Answer → Call → Plain
 fedBy k q d (Refused why) call = q
 fedBy k q d Accepted reset = begun (recordAt (deskAfter d reset .numbers) k)
 fedBy k q d Accepted (store address value) = q
-fedBy k q d Accepted (sample j raw) = cond (eqb j k) (plainAfter q (readingOf (d .words) k (q .state .mode)) raw) q
+fedBy k q d Accepted (sample j raw) = cond (eqb j k) (plainAfter q (readingOf (d .words) k (q .state .mode) (q .state .profile .segment)) raw) q
 
 -- E3: the plain loop after a call
 unfoldable pub fed : ℕ → Plain → Desk → Call → Plain

@@ -3,6 +3,8 @@
 // A desk is memory that the caller lends: the words of the loops' tables, and the numbers of the loops'
 // carried records. Both may hold anything; a call that is refused leaves both as they were (Q8). A loop's
 // number, an address and a raw PV may be any 64-bit number: each is tested before it is narrowed (Q7).
+mod finding;
+mod forecasting;
 mod memory;
 mod resetting;
 mod sampling;
@@ -11,6 +13,8 @@ mod storing;
 
 pub use carried::FIELDS;
 pub use carried::NUMBERS;
+pub use forecasting::Foretold;
+pub use forecasting::forecast;
 pub use memory::fitting;
 pub use resetting::reset;
 pub use sampling::sample;

@@ -1,22 +1,17 @@
 // Q3: a sample of one loop, refused in O3's order, or carried out and written back.
-use crate::memory::fitting;
-use crate::memory::no_loop;
+use crate::finding::Found;
+use crate::finding::find_loop;
 use carried::Carried;
-use carried::numbers_at;
 use carried::numbers_of;
-use carried::out_of_range;
 use carried::put_numbers;
-use carried::record_of;
 use carried::slot_of;
 use engine::write_words;
 use judging::judge;
 use refusals::Answer;
-use refusals::Refusal;
 use table::read_loop;
 ghost use mathlib.Core.Path.{_≡_};
 ghost use Prim.Native.Nat.{_+_, _≤_};
 ghost use lib.ListN.{length};
-ghost use Rattle.table.specs.Words.{baseOf};
 ghost use Rattle.carried.specs.Layout.{fieldCount, slotOf, recordAt};
 ghost use Rattle.carried.specs.Ranged.{Ranged};
 ghost use Rattle.desk.specs.Desk.{lent, judgedAnswer, judgedLeft, sampleAnswer, sampleLeft};
@@ -29,14 +24,14 @@ fn carry_out(
     number: u8,
     raw: u64,
 ) -> Answer
-    requires { ⌜ (baseOf number + 32 ≤ length (now words)) × (slotOf number + fieldCount ≤ length (now numbers)) ⌝ }
+    requires { ⌜ (length (now words) ≡ 1024) × (number ≤ 16) × (slotOf number + fieldCount ≤ length (now numbers)) ⌝ }
     requires { ⌜ (carried ≡ recordAt (now numbers) number) × Ranged carried ⌝ }
     ensures answer { λ r. ⌜ r ≡ judgedAnswer (lent (now (words .entry)) (now (numbers .entry))) number raw ⌝ }
     ensures left { λ _. ⌜ lent (now (words .exit)) (now (numbers .exit)) ≡ judgedLeft (lent (now (words .entry)) (now (numbers .entry))) number raw ⌝ }
 {
     let state = carried.state;
     let former = state.mode;
-    let reading = read_loop(words, number, former);
+    let reading = read_loop(words, number, former, state.profile.segment);
     let answer = judge(reading, raw);
     match answer {
         Answer::Refused(why) => Answer::Refused(why),
@@ -56,17 +51,9 @@ pub fn sample(words: &mut [u16], numbers: &mut [i64], number: u64, raw: u64) -> 
     ensures answer { λ r. ⌜ r ≡ sampleAnswer (lent (now (words .entry)) (now (numbers .entry))) number raw ⌝ }
     ensures left { λ _. ⌜ lent (now (words .exit)) (now (numbers .exit)) ≡ sampleLeft (lent (now (words .entry)) (now (numbers .entry))) number raw ⌝ }
 {
-    if !fitting(words, numbers) {
-        return Answer::Refused(Refusal::Memory);
+    let found = find_loop(words, numbers, number);
+    match found {
+        Found::Refused(why) => Answer::Refused(why),
+        Found::Loop(carried) => carry_out(words, numbers, carried, number as u8, raw),
     }
-    if no_loop(number) {
-        return Answer::Refused(Refusal::Loop);
-    }
-    let k = number as u8;
-    let found = numbers_at(numbers, slot_of(k));
-    if out_of_range(found) {
-        return Answer::Refused(Refusal::Record);
-    }
-    let carried = record_of(found);
-    carry_out(words, numbers, carried, k, raw)
 }

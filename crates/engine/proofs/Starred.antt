@@ -13,15 +13,19 @@ use Rattle.refusals.specs.Refusals.{firstOf}
 use Rattle.table.specs.declared.reading.Reading.{Reading}
 use Rattle.table.specs.Words.{bcd, badDigit}
 use Rattle.table.specs.Settings.{mode2Of, badDigits, tuningOf, settingsOf}
+use Rattle.table.specs.Programs.{faultOf, pairAt, anyBelow, badDigitIn, highEndIn, programOf}
 use Rattle.table.specs.Reading.{modeAfter, remoteOf, readingOf}
 use Rattle.control.specs.Errors.{squaredOver, errorOf}
 use Rattle.control.specs.Terms.{exactP, exactI, exactD, exactTerms, termsOf}
 use Rattle.control.specs.Forms.{outsideOf, positionOf, velocityOf}
-use Rattle.alarms.specs.Status.{apart, levelsOf, statusOf}
+use Rattle.numbers.specs.Distances.{apart}
+use Rattle.profile.specs.Moves.{commandOf, withHold, handedOver, joggedOf, toward, rampedTo, rampedBy, soakedBy, movedBy, workedBy, advancedBy}
+use Rattle.profile.specs.Flags.{deviates, flagsOf}
+use Rattle.alarms.specs.Status.{levelsOf, statusOf}
 use Rattle.carried.specs.declared.record.Carried.{Carried}
 use Rattle.carried.specs.Layout.{resetRecord}
 use Rattle.judging.specs.Judging.{readingCases}
-use Rattle.engine.specs.Sensing.{pvOf, setpointOf, entering, targetOf, errorIn, sensedOf}
+use Rattle.engine.specs.Sensing.{pvOf, setpointOf, entering, runsOn, targetOf, profiledOf, flagsAfter, faultAfter, errorIn, sensedOf}
 use Rattle.engine.specs.Driving.{heldOf, startOf, pastOf, positionInputs, velocityInputs, termsIn, movedPosition, movedVelocity, movedOf, drivenOf}
 use Rattle.engine.specs.Writing.{outputWord, biasWord, statusWord, writtenOf, nextOf, writtenTo}
 use Rattle.engine.specs.Steps.{stepOf}
@@ -45,7 +49,7 @@ sampled Accepted l r raw =
 
 after : Loop → Call → Loop
 after l (store address value) = record { words = set (l .words) address value; carried = l .carried }
-after l (sample raw) = let r = readingOf (l .words) 1 (l .carried .state .mode) in sampled (firstOf (readingCases r raw)) l r raw
+after l (sample raw) = let r = readingOf (l .words) 1 (l .carried .state .mode) (l .carried .state .profile .segment) in sampled (firstOf (readingCases r raw)) l r raw
 
 run : Loop → List Call → Loop
 run l [] = l
@@ -102,5 +106,5 @@ given x = let words = run reset (x .calls) .words in map (λ (i : ℕ). getD wor
 
 -- each of the thirteen cases gives the numbers of X1 to X3
 pub all-starred : map given starred ≡ map (λ x. x .answers) starred
-unfolding clampBy halfUp halfAway rootWithin rootOf over negᶠ roundTo bcd badDigit modeAfter mode2Of badDigits tuningOf settingsOf remoteOf readingOf squaredOver errorOf exactP exactI exactD exactTerms termsOf outsideOf positionOf velocityOf apart levelsOf statusOf resetRecord pvOf setpointOf entering heldOf startOf targetOf errorIn sensedOf pastOf positionInputs velocityInputs termsIn movedPosition movedVelocity movedOf drivenOf outputWord biasWord statusWord writtenOf nextOf stepOf writtenTo sampled after run reset begun line9 low back _gives_at_ starred given
+unfolding faultOf pairAt anyBelow badDigitIn highEndIn programOf commandOf withHold handedOver joggedOf toward rampedTo rampedBy soakedBy movedBy workedBy advancedBy deviates flagsOf runsOn profiledOf flagsAfter faultAfter clampBy halfUp halfAway rootWithin rootOf over negᶠ roundTo bcd badDigit modeAfter mode2Of badDigits tuningOf settingsOf remoteOf readingOf squaredOver errorOf exactP exactI exactD exactTerms termsOf outsideOf positionOf velocityOf apart levelsOf statusOf resetRecord pvOf setpointOf entering heldOf startOf targetOf errorIn sensedOf pastOf positionInputs velocityInputs termsIn movedPosition movedVelocity movedOf drivenOf outputWord biasWord statusWord writtenOf nextOf stepOf writtenTo sampled after run reset begun line9 low back _gives_at_ starred given
 all-starred = refl

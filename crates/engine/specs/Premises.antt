@@ -8,6 +8,7 @@ use lib.Signed.{_≤ℤ_}
 use Rattle.numbers.specs.Rounding.{unitsOf}
 use Rattle.table.specs.declared.settings.Settings.{Settings}
 use Rattle.table.specs.declared.reading.Reading.{Reading}
+use Rattle.table.specs.Programs.Laws.{Fair}
 use Rattle.control.specs.declared.forms.Drive.{Drive}
 use Rattle.control.specs.Premises.{Tuned}
 use Rattle.carried.specs.declared.record.Past.{Past}
@@ -26,6 +27,7 @@ pub record Usable (r : Reading) (raw : ℕ) : Type 0 where
   pub format : r .settings .mode2 .output ≡ r .settings .mode2 .input
   pub setpoint : setpointOf r ≤ r .settings .mode2 .input .scale
   pub input : raw ≤ r .settings .mode2 .input .scale
+  pub program : Fair (r .program) (r .settings .mode2 .input .scale)
 
 -- units of a word
 pub record Counted (z : ℤ) : Type 0 where

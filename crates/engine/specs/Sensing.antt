@@ -1,13 +1,19 @@
--- What a sample senses: A1 to A5.
+-- What a sample senses: A1 to A5, with the profile between A4 and A5 (G3).
 use Prim.Native.Nat.{ℕ, _*_}
 use mathlib.Core.Bool.{Bool, cond, not, _&&_, _||_, Bool·beq}
+use lib.Dec.{eqb}
 use lib.IntN.{ℤ}
 use Rattle.numbers.specs.Roots.{rootOf}
 use Rattle.table.specs.declared.mode.Mode.{Mode}
 use Rattle.table.specs.declared.settings.Settings.{Settings}
+use Rattle.table.specs.declared.program.Program.{Program}
 use Rattle.table.specs.declared.reading.Reading.{Reading}
 use Rattle.table.specs.Modes.{isManual, isAutomatic, isCascade}
 use Rattle.control.specs.Errors.{errorOf}
+use Rattle.profile.specs.declared.state.Profile.{Profile}
+use Rattle.profile.specs.declared.state.Moved.{Moved}
+use Rattle.profile.specs.Moves.{advancedBy}
+use Rattle.profile.specs.Flags.{flagsOf}
 use Rattle.carried.specs.declared.record.State.{State}
 use Rattle.engine.specs.declared.sensing.Sensed.{Sensed}
 pub mod Laws
@@ -26,25 +32,45 @@ setpointOf r = cond (isCascade (r .mode)) (r .remote) (r .settings .stored .setp
 unfoldable pub entering : State → Mode → Bool → Bool
 entering state mode velocity = not (isManual mode) && (isManual (state .mode) || not (Bool·beq (state .velocity) velocity))
 
--- A4: at an entry to Automatic with Bumpless I the setpoint becomes p
-unfoldable pub targetOf : Reading → Bool → ℕ → ℕ
-targetOf r entry p = cond (entry && isAutomatic (r .mode) && not (r .settings .mode1 .bumpless)) p (setpointOf r)
+-- G11: a profile runs, held or not: there is a program, and the carried segment is above 0
+unfoldable pub runsOn : Program → Profile → Bool
+runsOn program q = program .on && not (eqb (q .segment) 0)
+
+-- A4: at an entry to Automatic with Bumpless I the setpoint becomes p, unless a profile runs (G11)
+unfoldable pub targetOf : Reading → Bool → Bool → ℕ → ℕ
+targetOf r entry runs p = cond (entry && isAutomatic (r .mode) && not (r .settings .mode1 .bumpless) && not runs) p (setpointOf r)
+
+-- G3: the profile and its setpoint after the sample; in Cascade they wait
+unfoldable pub profiledOf : Reading → Profile → ℕ → Moved
+profiledOf r q target =
+    cond (isCascade (r .mode)) (record { profile = q; setpoint = target })
+    (advancedBy (r .program) (r .settings .stored .flags) (r .settings .tuning .period) q target)
+
+-- G10: word 27 after the sample, by profile and setpoint after it; in Cascade it stays
+unfoldable pub flagsAfter : Reading → Profile → ℕ → ℕ → ℕ
+flagsAfter r q s p = cond (isCascade (r .mode)) (r .settings .stored .flags) (flagsOf q (r .program .pair .deviation) s p)
+
+-- G2: word 29 after the sample; in Cascade it stays
+unfoldable pub faultAfter : Reading → ℕ
+faultAfter r = cond (isCascade (r .mode)) (r .settings .stored .fault) (r .program .fault)
 
 -- A5, with the loop's settings
 unfoldable pub errorIn : Settings → ℕ → ℕ → ℤ
 errorIn s target p = errorOf (s .mode1 .squared) (s .mode2 .output .scale) (s .mode1 .deadband) (s .deadband) target p
 
--- A1 to A5 together, from the carried mode and form; and (A11) mode and form after them
+-- A1 to A5 together, from the carried mode, form and profile; and (A11) these after them
 unfoldable pub sensedOf : Reading → State → ℕ → Sensed
 sensedOf r state raw =
     let s = r .settings in
     let p = pvOf (s .mode1 .root) (s .mode2 .input .scale) raw in
     let entry = entering state (r .mode) (s .mode1 .velocity) in
-    let target = targetOf r entry p in
+    let moved = profiledOf r (state .profile) (targetOf r entry (runsOn (r .program) (state .profile)) p) in
     record {
       pv = p;
       entry = entry;
-      setpoint = target;
-      error = errorIn s target p;
-      state = record { mode = r .mode; velocity = s .mode1 .velocity };
+      setpoint = moved .setpoint;
+      error = errorIn s (moved .setpoint) p;
+      flags = flagsAfter r (moved .profile) (moved .setpoint) p;
+      fault = faultAfter r;
+      state = record { mode = r .mode; velocity = s .mode1 .velocity; profile = moved .profile };
     }

@@ -1,4 +1,4 @@
--- What a sample writes: A10 to A12, six words and the record that the loop carries on.
+-- What a sample writes: A10 to A12, eight words and the record that the loop carries on.
 use Prim.Native.Nat.{ℕ, _+_}
 use mathlib.Core.Bool.{Bool, true, cond, _||_}
 use mathlib.Core.List.{List}
@@ -32,7 +32,8 @@ statusWord r c x output =
     let seen : Seen = record { pv = x .pv; setpoint = x .setpoint; last = c .past .last; sampled = c .sampled; output = output } in
     wordOf (bitsOf (statusOf (r .mode) (s .mode1) (s .alarms) (s .limits) (s .stored .status) seen))
 
--- A12: the six words: mode 1 with its requests off (A2), setpoint (A3, A4), PV (A11), bias and output (A10), status (B1 to B8)
+-- A12: the eight words: mode 1 with its requests off (A2), setpoint (A3, A4, G3), PV (A11), bias and output (A10), status (B1 to B8), and of the
+-- profile words 27 (G10) and 29 (G2)
 unfoldable pub writtenOf : Reading → Carried → Sensed → ℕ → Drive → Written
 writtenOf r c x held drive =
     let s = r .settings in
@@ -44,18 +45,17 @@ writtenOf r c x held drive =
       bias = biasWord (isManual (r .mode) || s .mode1 .velocity) (s .stored .bias) (s .mode2 .output .scale) (drive .bias);
       output = output;
       status = statusWord r c x output;
+      flags = x .flags;
+      fault = x .fault;
     }
 
--- A12: and where they go: words 0, 2, 3, 4, 5 and 6 of the loop at `base`
+-- A12: and where they go: words 0, 2, 3, 4, 5, 6, 27 and 29 of the loop at `base`
 unfoldable pub writtenTo : List ℕ → ℕ → Written → List ℕ
 writtenTo ws base w =
-    set
-    (set
-    (set (set (set (set ws base (w .word)) (base + 2) (w .setpoint)) (base + 3) (w .pv)) (base + 4) (w .bias))
-    (base + 5)
-    (w .output))
-    (base + 6)
-    (w .status)
+    let at : ℕ → ℕ → List ℕ → List ℕ = λ i value l. set l (base + i) value in
+    at 29 (w .fault)
+    (at 27 (w .flags)
+    (at 6 (w .status) (at 5 (w .output) (at 4 (w .bias) (at 3 (w .pv) (at 2 (w .setpoint) (set ws base (w .word))))))))
 
 -- A11, in every mode: mode and form of this sample, the PV before (p at the first accepted sample), the last PV, the error, and that one was accepted
 unfoldable pub nextOf : Carried → Sensed → Drive → Carried

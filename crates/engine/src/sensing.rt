@@ -1,22 +1,29 @@
-// What a sample senses (A1 to A5): the PV, the mode, whether the sample is an entry, the setpoint and
-// the error.
+// What a sample senses (A1 to A5): the PV, the mode, whether the sample is an entry, the setpoint with its
+// profile (G3), and the error.
 use carried::State;
+use profile::Moved;
+use profile::Profile;
 use table::Mode;
+use table::Program;
 use table::Reading;
 use table::Settings;
 use table::is_automatic;
 use table::is_cascade;
 use table::is_manual;
 ghost use mathlib.Core.Path.{_≡_};
-ghost use Prim.Native.Nat.{_<_};
-ghost use Rattle.engine.specs.Sensing.{pvOf, setpointOf, entering, targetOf, errorIn, sensedOf};
+ghost use Prim.Native.Nat.{_≤_, _<_};
+ghost use Rattle.engine.specs.Sensing.{pvOf, setpointOf, entering, runsOn, targetOf, profiledOf, flagsAfter, faultAfter, errorIn, sensedOf};
+ghost use Rattle.profile.specs.Moves.Laws.{Within};
 
-// The PV, the setpoint and the error; whether the sample is an entry; and the loop's state after it.
+// The PV, the setpoint and the error; whether the sample is an entry; words 27 and 29; and the loop's state
+// after it.
 pub struct Sensed {
     pub pv: u16,
     pub entry: bool,
     pub setpoint: u16,
     pub error: i64,
+    pub flags: u16,
+    pub fault: u16,
     pub state: State,
 }
 
@@ -54,16 +61,74 @@ fn enters(state: State, mode: Mode, velocity: bool) -> bool
     !is & (was | (state.velocity != velocity))
 }
 
-// A3 and A4: the setpoint, forced to the PV at an entry to Automatic with Bumpless I.
-fn target_of(reading: Reading, entry: bool, pv: u16) -> u16
-    ensures { λ r. ⌜ r ≡ targetOf reading entry pv ⌝ }
+// G11: a profile runs, held or not.
+fn runs_on(program: Program, p: Profile) -> bool
+    ensures { λ r. ⌜ r ≡ runsOn program p ⌝ }
+{
+    program.on & (p.segment != 0)
+}
+
+// A3 and A4: the setpoint, forced to the PV at an entry to Automatic with Bumpless I, unless a profile runs.
+fn target_of(reading: Reading, entry: bool, runs: bool, pv: u16) -> u16
+    ensures { λ r. ⌜ r ≡ targetOf reading entry runs pv ⌝ }
 {
     let mode = reading.mode;
     let automatic = is_automatic(mode);
-    if entry & automatic & !reading.settings.mode1.bumpless {
+    if entry & automatic & !reading.settings.mode1.bumpless & !runs {
         pv
     } else {
         own_setpoint(reading)
+    }
+}
+
+// G3: the profile and its setpoint after the sample; in Cascade they wait.
+fn profiled(reading: Reading, p: Profile, setpoint: u16) -> Moved
+    requires { ⌜ Within p ⌝ }
+    ensures { λ r. ⌜ r ≡ profiledOf reading p setpoint ⌝ }
+{
+    let mode = reading.mode;
+    let program = reading.program;
+    let cascade = is_cascade(mode);
+    if cascade {
+        Moved {
+            profile: p,
+            setpoint,
+        }
+    } else {
+        profile::advance(
+            program,
+            reading.settings.stored.flags,
+            reading.settings.tuning.period,
+            p,
+            setpoint,
+        )
+    }
+}
+
+// G10: word 27; in Cascade as it stood.
+fn flags_after(reading: Reading, p: Profile, setpoint: u16, pv: u16) -> u16
+    requires { ⌜ p .segment ≤ 16 ⌝ }
+    ensures { λ r. ⌜ r ≡ flagsAfter reading p setpoint pv ⌝ }
+{
+    let mode = reading.mode;
+    let cascade = is_cascade(mode);
+    if cascade {
+        reading.settings.stored.flags
+    } else {
+        profile::flags_word(p, reading.program.pair.deviation, setpoint, pv)
+    }
+}
+
+// G2: word 29; in Cascade as it stood.
+fn fault_after(reading: Reading) -> u16
+    ensures { λ r. ⌜ r ≡ faultAfter reading ⌝ }
+{
+    let mode = reading.mode;
+    let cascade = is_cascade(mode);
+    if cascade {
+        reading.settings.stored.fault
+    } else {
+        reading.program.fault
     }
 }
 
@@ -82,25 +147,35 @@ fn error_in(s: Settings, target: u16, pv: u16) -> i64
     )
 }
 
-// A1 to A5, from the carried mode and form.
+// A1 to A5, from the carried mode, form and profile.
 pub(crate) fn sensed_by(reading: Reading, state: State, raw: u16) -> Sensed
-    requires { ⌜ 0 < reading .settings .mode2 .output .scale ⌝ }
+    requires { ⌜ (0 < reading .settings .mode2 .output .scale) × Within (state .profile) × (reading .program .pair .duration ≤ 9999) ⌝ }
     ensures { λ r. ⌜ r ≡ sensedOf reading state raw ⌝ }
 {
     let s = reading.settings;
     let mode = reading.mode;
     let pv = measured(s.mode1.root, s.mode2.input.scale, raw);
     let entry = enters(state, mode, s.mode1.velocity);
-    let setpoint = target_of(reading, entry, pv);
+    let program = reading.program;
+    let before = state.profile;
+    let target = target_of(reading, entry, runs_on(program, before), pv);
+    let moved = profiled(reading, before, target);
+    let profile = moved.profile;
+    let setpoint = moved.setpoint;
+    let flags = flags_after(reading, profile, setpoint, pv);
+    let fault = fault_after(reading);
     let error = error_in(s, setpoint, pv);
     Sensed {
         pv,
         entry,
         setpoint,
         error,
+        flags,
+        fault,
         state: State {
             mode,
             velocity: s.mode1.velocity,
+            profile,
         },
     }
 }

@@ -1,4 +1,4 @@
-// What a sample writes (A10 to A12): six words, and the record that the loop carries on.
+// What a sample writes (A10 to A12): eight words, and the record that the loop carries on.
 use crate::sensing::Sensed;
 use alarms::Seen;
 use carried::Carried;
@@ -7,6 +7,8 @@ use control::Drive;
 use table::BIAS;
 use table::MODE_1;
 use table::OUTPUT;
+use table::PROFILE_FAULT;
+use table::PROFILE_FLAGS;
 use table::PV;
 use table::Reading;
 use table::SETPOINT;
@@ -20,7 +22,7 @@ ghost use Rattle.table.specs.Words.{baseOf};
 ghost use Rattle.engine.specs.Writing.{outputWord, biasWord, statusWord, writtenOf, nextOf, writtenTo};
 ghost use Rattle.engine.specs.Premises.{Counted};
 
-// A12: the words that a sample writes: 0, 2, 3, 4, 5 and 6.
+// A12: the words that a sample writes: 0, 2, 3, 4, 5, 6, 27 and 29.
 pub struct Written {
     pub word: u16,
     pub setpoint: u16,
@@ -28,6 +30,8 @@ pub struct Written {
     pub bias: u16,
     pub output: u16,
     pub status: u16,
+    pub flags: u16,
+    pub fault: u16,
 }
 
 // A10: word 5.
@@ -127,6 +131,8 @@ pub(crate) fn words_after(
     let word = table::clear_requests(s.stored.word);
     let setpoint = sensed.setpoint;
     let pv = sensed.pv;
+    let flags = sensed.flags;
+    let fault = sensed.fault;
     Written {
         word,
         setpoint,
@@ -134,10 +140,12 @@ pub(crate) fn words_after(
         bias,
         output,
         status,
+        flags,
+        fault,
     }
 }
 
-// The six words stored: those of loop `number`.
+// The eight words stored: those of loop `number`.
 pub fn write_words(words: &mut [u16], number: u8, w: Written)
     requires { ⌜ baseOf number + 32 ≤ length (now words) ⌝ }
     ensures { λ _. ⌜ now (words .exit) ≡ writtenTo (now (words .entry)) (baseOf number) w ⌝ }
@@ -149,4 +157,6 @@ pub fn write_words(words: &mut [u16], number: u8, w: Written)
     words[base + BIAS] = w.bias;
     words[base + OUTPUT] = w.output;
     words[base + STATUS] = w.status;
+    words[base + PROFILE_FLAGS] = w.flags;
+    words[base + PROFILE_FAULT] = w.fault;
 }

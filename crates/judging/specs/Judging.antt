@@ -1,4 +1,4 @@
--- Refusals N7, N8 and N9 of a sample, by what it read. The settings of N8 stand in four groups.
+-- Refusals N7, N8 and N9 of a sample, by what it read. The settings of N8 stand in five groups.
 use Prim.Native.Nat.{ℕ}
 use mathlib.Core.Path.{_≡_}
 use mathlib.Core.Bool.{Bool, false, not, _&&_, _||_}
@@ -18,7 +18,6 @@ abbrev pub badModes : Mode1 → Bool → ℕ → Bool
 badModes bits unused hysteresis =
     (bits .velocity && bits .bumpless)
     || bits .limited
-    || bits .profile
     || unused
     || ((bits .level || bits .deviation) && (ltb hysteresis 1 || ltb 200 hysteresis))
 
@@ -34,13 +33,14 @@ badLimits limits scale = ltb (limits .high) (limits .low) || ltb scale (limits .
 abbrev pub badSetpoint : Bool → ℕ → ℕ → ℕ → ℕ → Bool
 badSetpoint cascade scale setpoint pointer remote = (not cascade && ltb scale setpoint) || (cascade && (ltb 1023 pointer || ltb scale remote))
 
--- O3: N7; N8 by its groups; N9
+-- O3: N7, of the tuning words and of a ramp/soak table; N8 by its groups, mode bits first, then a table's ramp ends; N9
 abbrev pub readingCases : Reading → ℕ → List Case
 readingCases r raw =
     let s = r .settings in
     let scale = s .mode2 .input .scale in
-    (s .baddigit ⇒ Digit)
+    ((s .baddigit || r .program .baddigit) ⇒ Digit)
     ∷ (badModes (s .mode1) (s .mode2 .unused) (s .alarms .hysteresis) ⇒ Setting)
+    ∷ (r .program .highend ⇒ Setting)
     ∷ (badTimes (s .tuning) ⇒ Setting)
     ∷ (badLimits (s .limits) (s .mode2 .output .scale) ⇒ Setting)
     ∷ (badSetpoint (isCascade (r .mode)) scale (s .stored .setpoint) (s .pointer) (r .remote) ⇒ Setting)
@@ -49,8 +49,9 @@ readingCases r raw =
 
 -- O3: none of them holds
 pub record Passed (r : Reading) (raw : ℕ) : Type 0 where
-  pub digit : r .settings .baddigit ≡ false
+  pub digit : (r .settings .baddigit || r .program .baddigit) ≡ false
   pub modes : badModes (r .settings .mode1) (r .settings .mode2 .unused) (r .settings .alarms .hysteresis) ≡ false
+  pub ends : r .program .highend ≡ false
   pub times : badTimes (r .settings .tuning) ≡ false
   pub limits : badLimits (r .settings .limits) (r .settings .mode2 .output .scale) ≡ false
   pub setpoint : badSetpoint (isCascade (r .mode)) (r .settings .mode2 .input .scale) (r .settings .stored .setpoint) (r .settings .pointer) (r .remote) ≡ false

@@ -24,7 +24,6 @@ fn bad_modes(bits: Mode1, unused: bool, hysteresis: u16) -> bool
 {
     (bits.velocity & bits.bumpless)
         | bits.limited
-        | bits.profile
         | unused
         | ((bits.level | bits.deviation) & ((hysteresis < 1) | (MOST_HYSTERESIS < hysteresis)))
 }
@@ -66,10 +65,13 @@ pub fn judge(reading: Reading, raw: u64) -> Answer
     let limits = s.limits;
     let scale = s.mode2.input.scale;
     let cascade = is_cascade(mode);
-    if s.baddigit {
+    if s.baddigit | reading.program.baddigit {
         return Answer::Refused(Refusal::Digit);
     }
     if bad_modes(bits, s.mode2.unused, s.alarms.hysteresis) {
+        return Answer::Refused(Refusal::Setting);
+    }
+    if reading.program.highend {
         return Answer::Refused(Refusal::Setting);
     }
     if bad_times(tuning) {

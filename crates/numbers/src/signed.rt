@@ -14,7 +14,7 @@ pub(crate) fn to_signed(n: u64) -> i64
 }
 
 // A signed number that is not negative as an unsigned one.
-pub(crate) fn to_unsigned(z: i64) -> u64
+pub fn to_unsigned(z: i64) -> u64
     requires { ⌜ pos 0 ≤ℤ z ⌝ }
     ensures { λ r. ⌜ r ≡ natAbs z ⌝ }
 {

@@ -1,5 +1,6 @@
--- All that a sample reads of the words: the loop's settings (W2), the mode after the requests (A2), and in Cascade the word pointed to (A3).
-use Prim.Native.Nat.{ℕ}
+-- All that a sample reads of the words: the loop's settings (W2), the mode after the requests (A2), in Cascade the word pointed to (A3), and the
+-- ramp/soak program (G1).
+use Prim.Native.Nat.{ℕ, _+_}
 use mathlib.Core.Bool.{cond}
 use mathlib.Core.List.{List}
 use lib.ListN.{getD}
@@ -10,6 +11,7 @@ use Rattle.table.specs.declared.reading.Reading.{Reading}
 use Rattle.table.specs.Words.{baseOf, blockAt}
 use Rattle.table.specs.Modes.{isCascade}
 use Rattle.table.specs.Settings.{settingsOf}
+use Rattle.table.specs.Programs.{programOf}
 pub mod Laws
 
 -- A2: the lowest request bit that is on names the mode; with all three off the former one goes on
@@ -20,9 +22,19 @@ modeAfter bits former = cond (bits .manual) Manual (cond (bits .automatic) Autom
 unfoldable pub remoteOf : List ℕ → Mode → ℕ → ℕ
 remoteOf words mode pointer = cond (isCascade mode) (getD words pointer 0) 0
 
--- Q9: all that a sample of loop k reads, `former` being the loop's carried mode
-unfoldable pub readingOf : List ℕ → ℕ → Mode → Reading
-readingOf words k former =
+-- G1: word 28 of loop k, where its ramp/soak table begins
+abbrev pub tableOf : List ℕ → ℕ → ℕ
+tableOf words k = getD words (baseOf k + 28) 0
+
+-- Q9: all that a sample of loop k reads, `former` being the loop's carried mode and `segment` its carried segment
+unfoldable pub readingOf : List ℕ → ℕ → Mode → ℕ → Reading
+readingOf words k former segment =
     let s = settingsOf (blockAt words (baseOf k)) in
     let mode = modeAfter (s .mode1) former in
-    record { number = k; settings = s; mode = mode; remote = remoteOf words mode (s .pointer) }
+    record {
+      number = k;
+      settings = s;
+      mode = mode;
+      remote = remoteOf words mode (s .pointer);
+      program = programOf words (s .mode1 .profile) (tableOf words k) (s .mode2 .input .scale) segment;
+    }

@@ -80,9 +80,17 @@ alarmLimitsOf w = record {
 abbrev pub outputLimitsOf : List ℕ → OutputLimits
 outputLimitsOf w = record { low = getD w 24 0; high = getD w 25 0 }
 
--- W2: words 0, 2, 4, 5 and 6, which samples write, as they stand before the sample
+-- W2: words 0, 2, 4, 5, 6, 27 and 29, which samples write, as they stand before the sample
 abbrev pub storedOf : List ℕ → Stored
-storedOf w = record { word = getD w 0 0; setpoint = getD w 2 0; bias = getD w 4 0; output = getD w 5 0; status = getD w 6 0 }
+storedOf w = record {
+  word = getD w 0 0;
+  setpoint = getD w 2 0;
+  bias = getD w 4 0;
+  output = getD w 5 0;
+  status = getD w 6 0;
+  flags = getD w 27 0;
+  fault = getD w 29 0;
+}
 
 -- W2: all that the engine uses of a loop's words; word 3 it only writes
 unfoldable pub settingsOf : List ℕ → Settings

@@ -1,10 +1,11 @@
-// A loop's 32 words of the lent table, read as its settings.
+// A loop's 32 words of the lent table read as its settings, and the 32 words of its ramp/soak table.
 //
 // Everything that a sample reads of the words goes through one function, `read_loop`: so a sample's
 // answer depends on what that reads, and on nothing else of the table.
 mod format;
 mod mode;
 mod offsets;
+mod program;
 mod reading;
 mod settings;
 mod words;
@@ -20,10 +21,16 @@ pub use offsets::LOOPS;
 pub use offsets::MODE_1;
 pub use offsets::OUTPUT;
 pub use offsets::PROFILE_FAULT;
+pub use offsets::PROFILE_FLAGS;
+pub use offsets::PROFILE_TABLE;
 pub use offsets::PV;
 pub use offsets::SETPOINT;
 pub use offsets::STATUS;
 pub use offsets::WORDS;
+pub use program::Pair;
+pub use program::Program;
+pub use program::read_pair;
+pub use program::table_at;
 pub use reading::Reading;
 pub use reading::base_of;
 pub use reading::read_loop;

@@ -51,4 +51,27 @@ pub const OUTPUT_HIGH: usize = 25;
 
 pub const POINTER: usize = 26;
 
-pub const PROFILE_FAULT: usize = 29; // not in use yet: no store reaches it
+pub const PROFILE_FLAGS: usize = 27;
+
+pub const PROFILE_TABLE: usize = 28;
+
+pub const PROFILE_FAULT: usize = 29;
+
+// A ramp/soak table (G1): where it may begin (G2), its words, and its pairs of a ramp and a soak.
+pub const FIRST_TABLE: u16 = 512;
+
+pub const LAST_TABLE: u16 = 992;
+
+pub const TABLE_WORDS: usize = 32;
+
+pub const PAIRS: usize = 8;
+
+pub const PAIR_WORDS: usize = 4;
+
+pub const END: usize = 0;
+
+pub const SLOPE: usize = 1;
+
+pub const DURATION: usize = 2;
+
+pub const DEVIATION: usize = 3;

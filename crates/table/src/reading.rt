@@ -2,6 +2,9 @@
 use crate::mode::Mode;
 use crate::mode::is_cascade;
 use crate::offsets::LOOP_WORDS;
+use crate::offsets::PROFILE_TABLE;
+use crate::program::Program;
+use crate::program::read_program;
 use crate::settings::Mode1;
 use crate::settings::Settings;
 use crate::settings::read_settings;
@@ -12,13 +15,14 @@ ghost use lib.ListN.{length};
 ghost use Rattle.table.specs.Words.{baseOf};
 ghost use Rattle.table.specs.Reading.{modeAfter, remoteOf, readingOf};
 
-// The loop's number and settings, the mode after the requests (A2) and, in Cascade, the word that the
-// setpoint pointer names (A3; else 0).
+// The loop's number and settings, the mode after the requests (A2), in Cascade the word that the setpoint
+// pointer names (A3; else 0), and the ramp/soak program (G1).
 pub struct Reading {
     pub number: u8,
     pub settings: Settings,
     pub mode: Mode,
     pub remote: u16,
+    pub program: Program,
 }
 
 // W1: the address of the first word of loop k.
@@ -59,20 +63,23 @@ fn read_remote(words: &[u16], mode: Mode, pointer: u16) -> u16
     }
 }
 
-// What a sample of loop `number` reads, the loop's mode so far being `former`.
-pub fn read_loop(words: &[u16], number: u8, former: Mode) -> Reading
-    requires { ⌜ baseOf number + 32 ≤ length (now words) ⌝ }
-    ensures { λ r. ⌜ r ≡ readingOf (now (words .entry)) number former ⌝ }
+// What a sample of loop `number` reads, the loop's mode so far being `former` and its carried segment `segment`.
+pub fn read_loop(words: &[u16], number: u8, former: Mode, segment: u8) -> Reading
+    requires { ⌜ (baseOf number + 32 ≤ length (now words)) × (1024 ≤ length (now words)) × (segment ≤ 16) ⌝ }
+    ensures { λ r. ⌜ r ≡ readingOf (now (words .entry)) number former segment ⌝ }
 {
     let base = base_of(number);
     let settings = read_settings(&words[base..base + LOOP_WORDS]);
     let bits = settings.mode1;
     let mode = mode_after(bits, former);
     let remote = read_remote(words, mode, settings.pointer);
+    let at = words[base + PROFILE_TABLE];
+    let program = read_program(words, bits.profile, at, settings.mode2.input.scale, segment);
     Reading {
         number,
         settings,
         mode,
         remote,
+        program,
     }
 }

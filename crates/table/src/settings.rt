@@ -16,6 +16,8 @@ use crate::offsets::OUTPUT_HIGH;
 use crate::offsets::OUTPUT_LOW;
 use crate::offsets::PERIOD;
 use crate::offsets::POINTER;
+use crate::offsets::PROFILE_FAULT;
+use crate::offsets::PROFILE_FLAGS;
 use crate::offsets::RATE;
 use crate::offsets::RED;
 use crate::offsets::RESET;
@@ -42,7 +44,7 @@ pub struct Mode1 {
     pub deadband: bool, // 8: error deadband on
     pub limited: bool, // 9: derivative gain limit, not built
     pub freeze: bool, // 10: bias freeze
-    pub profile: bool, // 11: ramp and soak, not built
+    pub profile: bool, // 11: ramp and soak
     pub level: bool, // 12: monitor the PV
     pub deviation: bool, // 13: monitor the deviation
     pub change: bool, // 14: monitor the rate of change
@@ -87,6 +89,8 @@ pub struct Stored {
     pub bias: u16, // 4
     pub output: u16, // 5
     pub status: u16, // 6
+    pub flags: u16, // 27
+    pub fault: u16, // 29
 }
 
 pub struct Settings {
@@ -198,6 +202,8 @@ fn read_stored(w: &[u16]) -> Stored
         bias: w[BIAS],
         output: w[OUTPUT],
         status: w[STATUS],
+        flags: w[PROFILE_FLAGS],
+        fault: w[PROFILE_FAULT],
     }
 }
 

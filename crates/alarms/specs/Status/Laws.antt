@@ -1,5 +1,5 @@
 -- The laws of the status word.
-use Prim.Native.Nat.{ℕ, zero, suc, _+_, _*_, _-_, _/_, _%_, _^_, _<_}
+use Prim.Native.Nat.{ℕ, zero, suc, _+_, _*_, _/_, _%_, _^_, _<_}
 use native.Mathlib.Omega.{arith}
 use native.Mathlib.Nat.{add-zero, zero-div, div-one, div-div-eq-div-mul, pow-succ'}
 use mathlib.Core.Path.{_≡_, refl}
@@ -7,12 +7,12 @@ use mathlib.Core.Bool.{Bool, true, false, cond, _&&_, _||_}
 use mathlib.Core.List.{List, [], _∷_}
 use lib.ListN.{length, getD}
 use lib.Dec.{T, ltb, eqb, ltb→lt, lt→ltb}
-use lib.IntN.{ℤ, pos, natAbs, _+ℤ_, _-ℤ_}
+use lib.IntN.{ℤ, pos, _+ℤ_, _-ℤ_}
 use lib.Signed.{ltZ, _<ℤ_}
 use borrow.Author.Tests.{ltb-true, ltb-false, lt-ltb}
-use Rattle.numbers.specs.Whole.{linear, sub, abs}
+use Rattle.numbers.specs.Whole.{linear, sub}
 use Rattle.table.specs.Words.{bit}
-use Rattle.alarms.specs.Status.{apart, number, wordOf}
+use Rattle.alarms.specs.Status.{number, wordOf}
 
 -- ---- the word of the bits
 
@@ -76,12 +76,3 @@ high-hold limit hysteresis x =
 -- B3: and for a low one that x is smaller than limit + hysteresis
 pub low-hold : (limit hysteresis x : ℕ) → ltb x (limit + hysteresis) ≡ ltZ (pos x) (pos limit +ℤ pos hysteresis)
 low-hold limit hysteresis x = refl
-
--- the distance is the magnitude of the difference
-pub apart-is : (a b : ℕ) → apart a b ≡ natAbs (pos a -ℤ pos b)
-unfolding apart
-apart-is a b = by-test (ltb a b) refl
-  where
-    by-test : (t : Bool) → ltb a b ≡ t → cond t (b - a) (a - b) ≡ natAbs (pos a -ℤ pos b)
-    by-test true e = omega (arith, ltb-true, abs (pos a -ℤ pos b), sub (pos a) (pos b))
-    by-test false e = omega (arith, ltb-false, abs (pos a -ℤ pos b), sub (pos a) (pos b))

@@ -11,7 +11,8 @@ use Rattle.table.specs.declared.settings.AlarmLimits.{AlarmLimits}
 use Rattle.table.specs.declared.settings.OutputLimits.{OutputLimits}
 use Rattle.table.specs.Modes.{isManual, isAutomatic, isCascade}
 use Rattle.alarms.specs.declared.status.Seen.{Seen}
-use Rattle.alarms.specs.Status.{apart, unordered, atLimit, levelsOf, statusOf, number, wordOf, bitsOf}
+use Rattle.numbers.specs.Distances.{apart}
+use Rattle.alarms.specs.Status.{unordered, atLimit, levelsOf, statusOf, number, wordOf, bitsOf}
 use Rattle.alarms.specs.Sums.{flagOf, modeBit, levelBits, deviationBits}
 
 -- each group, by the numbers of its bits; what is not monitored has none

@@ -18,7 +18,7 @@ use Rattle.table.specs.declared.mode.Mode.{Mode}
 use Rattle.table.specs.declared.mode.Mode.the-variants.{Manual, Automatic, Cascade}
 use Rattle.table.specs.Words.Laws.{or-false, none-at}
 use Rattle.carried.specs.declared.record.Carried.{Carried}
-use Rattle.carried.specs.Layout.{Range, ranges, fieldCount, _to_, outsideRow, rangeTests, outOfRange, modeNumber, flag, numbersOf, modeFrom, flagFrom, recordFrom, slotOf, numbersAt}
+use Rattle.carried.specs.Layout.{Range, ranges, fieldCount, _to_, outsideRow, rangeTests, outOfRange, modeNumber, flag, numbersOf, modeFrom, flagFrom, profileFrom, recordFrom, slotOf, numbersAt}
 use Rattle.carried.specs.Ranged.{Ranged}
 
 -- ---- a row
@@ -51,6 +51,11 @@ pub record Rows (ns : List ℤ) : Type 0 where
   pub error : In ns 5 (negℤ (pos 65535)) (pos 65535)
   pub velocity : In ns 6 (pos 0) (pos 1)
   pub sampled : In ns 7 (pos 0) (pos 1)
+  pub segment : In ns 8 (pos 0) (pos 16)
+  pub hold : In ns 9 (pos 0) (pos 1)
+  pub complete : In ns 10 (pos 0) (pos 1)
+  pub fraction : In ns 11 (pos 0) (pos 9999)
+  pub time : In ns 12 (pos 0) (pos 6000000)
 
 -- no number is out of range where each stands in its row, and the reverse
 pub rows-in : (ns : List ℤ) → outOfRange ns ≡ false → Rows ns
@@ -66,6 +71,11 @@ rows-in ns e =
       error = in-row _ _ (no 5);
       velocity = in-row _ _ (no 6);
       sampled = in-row _ _ (no 7);
+      segment = in-row _ _ (no 8);
+      hold = in-row _ _ (no 9);
+      complete = in-row _ _ (no 10);
+      fraction = in-row _ _ (no 11);
+      time = in-row _ _ (no 12);
     }
 
 pub in-rows : (ns : List ℤ) → Rows ns → outOfRange ns ≡ false
@@ -81,6 +91,11 @@ in-rows ns r =
       row 5 _ _ (r .error),
       row 6 _ _ (r .velocity),
       row 7 _ _ (r .sampled),
+      row 8 _ _ (r .segment),
+      row 9 _ _ (r .hold),
+      row 10 _ _ (r .complete),
+      row 11 _ _ (r .fraction),
+      row 12 _ _ (r .time),
     )
 
 -- ---- a record is read back from its numbers
@@ -95,8 +110,10 @@ flag-number true = (refl, (omega (arith, linear), omega (arith, linear)))
 flag-number false = (refl, (omega (arith, linear), omega (arith, linear)))
 
 pub read-back : (c : Carried) → recordFrom (numbersOf c) ≡ c
-unfolding numbersOf recordFrom
-read-back c = simp (mode-number (c .state .mode) .0, flag-number (c .state .velocity) .0, flag-number (c .sampled) .0)
+unfolding numbersOf recordFrom profileFrom
+read-back c =
+    let p = c .state .profile in
+    simp (mode-number (c .state .mode) .0, flag-number (c .state .velocity) .0, flag-number (c .sampled) .0, flag-number (p .hold) .0, flag-number (p .complete) .0)
 
 pub numbers-length : (c : Carried) → length (numbersOf c) ≡ fieldCount
 unfolding numbersOf
@@ -105,13 +122,16 @@ numbers-length c = refl
 -- ---- numbers in range are a record in range, and the reverse
 
 pub ranged : (ns : List ℤ) → outOfRange ns ≡ false → Ranged (recordFrom ns)
-unfolding recordFrom
+unfolding recordFrom profileFrom
 ranged ns e =
     let r = rows-in ns e in
     let bias = getD ns 1 (pos 0) in
     let last = getD ns 3 (pos 0) in
     let prior = getD ns 4 (pos 0) in
     let error = getD ns 5 (pos 0) in
+    let segment = getD ns 8 (pos 0) in
+    let fraction = getD ns 11 (pos 0) in
+    let time = getD ns 12 (pos 0) in
     record {
       bias = abs-in bias (omega (arith, linear, neg (pos (2 ^ 52)), r .bias));
       positive = r .output .0;
@@ -119,6 +139,11 @@ ranged ns e =
       error = abs-in error (omega (arith, linear, neg (pos 65535), r .error));
       last = omega (arith, linear, r .last, abs last);
       prior = omega (arith, linear, r .prior, abs prior);
+      profile = record {
+        segment = omega (arith, linear, r .segment, abs segment);
+        fraction = omega (arith, linear, r .fraction, abs fraction);
+        time = omega (arith, linear, r .time, abs time);
+      };
     }
 
 pub in-range : (c : Carried) → Ranged c → outOfRange (numbersOf c) ≡ false
@@ -134,6 +159,11 @@ in-range c r =
       error = (omega (arith, linear, neg (pos 65535), abs (c .past .error), r .error), omega (arith, linear, abs (c .past .error), r .error));
       velocity = flag-number (c .state .velocity) .1;
       sampled = flag-number (c .sampled) .1;
+      segment = (omega (arith, linear), omega (arith, linear, r .profile .segment));
+      hold = flag-number (c .state .profile .hold) .1;
+      complete = flag-number (c .state .profile .complete) .1;
+      fraction = (omega (arith, linear), omega (arith, linear, r .profile .fraction));
+      time = (omega (arith, linear), omega (arith, linear, r .profile .time));
     })
 
 -- ---- a record put into the buffer

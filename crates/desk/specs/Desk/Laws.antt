@@ -9,18 +9,22 @@ use lib.IntN.{ℤ, pos}
 use lib.ListN.{length, replicate}
 use borrow.Author.Tests.{eqb-true, not-false, ltb-false, le-ltb}
 use Rattle.refusals.specs.declared.Answer.{Answer}
-use Rattle.refusals.specs.declared.Answer.the-variants.{Accepted}
+use Rattle.refusals.specs.declared.Answer.the-variants.{Accepted, Refused}
+use Rattle.refusals.specs.declared.Refusal.{Refusal}
 use Rattle.refusals.specs.declared.Refusal.the-variants.{Record}
 use Rattle.refusals.specs.Refusals.{numberOf, _⇒_, firstOf}
-use Rattle.refusals.specs.Refusals.Laws.{accepted-only, accepted-at, accepted-rest}
-use Rattle.table.specs.Words.Laws.{or-false}
+use Rattle.refusals.specs.Refusals.Laws.{accepted-only, accepted-at, accepted-rest, refused-first, accepted-first}
+use Rattle.table.specs.Words.Laws.{or-false, and-true}
 use Rattle.carried.specs.Layout.{numberCount, slotOf, outOfRange, numbersOf, recordFrom, numbersAt, recordAt, resetRecord}
 use Rattle.carried.specs.Layout.Laws.{read-back, numbers-length, put-same, put-other, ranged, in-range}
+use Rattle.carried.specs.declared.record.Carried.{Carried}
 use Rattle.carried.specs.Ranged.{Ranged}
 use Rattle.judging.specs.Judging.{readingCases}
 use Rattle.engine.specs.Steps.Laws.{usable, stepped-ranged}
 use Rattle.engine.specs.Premises.{Usable}
-use Rattle.desk.specs.Desk.{Desk, lent, fittingOf, memoryCases, leftBy, resetDesk, resetAnswer, resetLeft, noLoop, loopCases, readingAt, stepAt, sampleDone, sampleAnswer, judgedAnswer, copiedBy}
+use Rattle.desk.specs.declared.finding.Found.the-variants.{Loop}
+use Rattle.desk.specs.declared.finding.Found.the-variants.{Refused as No}
+use Rattle.desk.specs.Desk.{Desk, lent, fittingOf, memoryCases, leftBy, resetDesk, resetAnswer, resetLeft, noLoop, loopCases, foundBy, foundAt, readingAt, stepAt, sampleDone, sampleAnswer, judgedAnswer, copiedBy}
 
 -- ---- any call
 
@@ -37,14 +41,10 @@ pub record Sound (d : Desk) : Type 0 where
   pub words : length (d .words) ≡ 1024
   pub numbers : length (d .numbers) ≡ numberCount
 
-both : (a b : Bool) → (a && b) ≡ true → (a ≡ true) × (b ≡ true)
-both true b e = (refl, e)
-both false b e = let z : false ≡ true = e in (z, cc)
-
 pub sound : (d : Desk) → fittingOf d ≡ true → Sound d
 unfolding fittingOf
 sound d e =
-    let p = both (eqb (length (d .words)) 1024) (eqb (length (d .numbers)) numberCount) e in
+    let p = and-true (eqb (length (d .words)) 1024) (eqb (length (d .numbers)) numberCount) e in
     record { words = eqb-true _ _ (p .0); numbers = eqb-true _ _ (p .1) }
 
 -- where a call with such a case is accepted
@@ -72,6 +72,46 @@ known ns k e f = let p = loop-there k e in record { above = p .0; below = p .1; 
 pub known-loop : (ns : List ℤ) (k : ℕ) → firstOf (loopCases ns k) ≡ Accepted → Known ns k
 known-loop ns k e = let no = accepted-at (loopCases ns k) e in known ns k (no 0) (no 1)
 
+-- ---- what was found of a loop
+
+refused-by : (a : Answer) (c : Carried) {why : Refusal} → foundBy a c ≡ No why → a ≡ Refused why
+refused-by Accepted c e = absurd (let z : _≡_ {A = ℕ} 0 1 = cc in omega arith)
+refused-by (Refused other) c e = cc
+
+loop-by : (a : Answer) (x : Carried) {c : Carried} → foundBy a x ≡ Loop c → (a ≡ Accepted) × (c ≡ x)
+loop-by Accepted x e = (refl, cc)
+loop-by (Refused why) x e = absurd (let z : _≡_ {A = ℕ} 0 1 = cc in omega arith)
+
+-- where it was refused, so is every sample
+pub found-refused : (d : Desk) (k raw : ℕ) {why : Refusal} → foundAt d k ≡ No why → sampleAnswer d k raw ≡ Refused why
+unfolding foundAt sampleAnswer
+found-refused d k raw e =
+    refused-first (memoryCases d ++ loopCases (d .numbers) k) (readingCases (readingAt d k) raw) (refused-by _ (recordAt (d .numbers) k) e)
+
+-- where there is one, the reading decides
+pub record There (d : Desk) (k : ℕ) (c : Carried) : Type 0 where
+  pub memory : Sound d
+  pub above : 1 ≤ k
+  pub below : k ≤ 16
+  pub record′ : c ≡ recordAt (d .numbers) k
+  pub range : Ranged c
+  pub judged : (raw : ℕ) → sampleAnswer d k raw ≡ judgedAnswer d k raw
+
+pub found-loop : (d : Desk) (k : ℕ) {c : Carried} → foundAt d k ≡ Loop c → There d k c
+unfolding foundAt sampleAnswer
+found-loop d k {c} e =
+    let f = loop-by (firstOf (memoryCases d ++ loopCases (d .numbers) k)) (recordAt (d .numbers) k) e in
+    let p = accepted-rest (memoryCases d) (loopCases (d .numbers) k) (f .0) in
+    let loop = known-loop (d .numbers) k (p .1) in
+    record {
+      memory = sound d (fits d (p .0));
+      above = loop .above;
+      below = loop .below;
+      record′ = f .1;
+      range = rw (f .1) (ranged (numbersAt (d .numbers) (slotOf k)) (loop .range));
+      judged = λ raw. accepted-first (memoryCases d ++ loopCases (d .numbers) k) (readingCases (readingAt d k) raw) (f .0);
+    }
+
 -- ---- an accepted sample
 
 pub record Sampled (d : Desk) (k raw : ℕ) : Type 0 where
@@ -87,12 +127,14 @@ sampled d k raw e =
     let p = accepted-rest (memoryCases d) (loopCases (d .numbers) k ++ readingCases (readingAt d k) raw) e in
     let q = accepted-rest (loopCases (d .numbers) k) (readingCases (readingAt d k) raw) (p .1) in
     let loop = known-loop (d .numbers) k (q .0) in
+    let c = recordAt (d .numbers) k in
+    let in-rows : Ranged c = ranged (numbersAt (d .numbers) (slotOf k)) (loop .range) in
     record {
       memory = sound d (fits d (p .0));
       above = loop .above;
       below = loop .below;
-      carried = ranged (numbersAt (d .numbers) (slotOf k)) (loop .range);
-      reading = usable (d .words) k (recordAt (d .numbers) k .state .mode) raw (q .1);
+      carried = in-rows;
+      reading = usable (d .words) k (c .state .mode) (c .state .profile .segment) raw (in-rows .profile .segment) (q .1);
     }
 
 -- so an answer of 0 is that of a loop that there is

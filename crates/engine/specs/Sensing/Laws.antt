@@ -1,4 +1,4 @@
--- The laws of what is sensed: PV and setpoint are within the full scale.
+-- The laws of what is sensed: PV and setpoint are within the full scale, the profile is in its ranges.
 use Prim.Native.Nat.{ℕ, _*_, _≤_}
 use native.Mathlib.Omega.{arith}
 use native.Mathlib.Nat.{mul-le-mul, mul-le-mul-right}
@@ -6,8 +6,11 @@ use mathlib.Core.Bool.{Bool, not, _&&_}
 use Rattle.numbers.specs.Limits.Laws.{by-test}
 use Rattle.numbers.specs.Roots.Laws.{root-exact, root-high}
 use Rattle.table.specs.declared.reading.Reading.{Reading}
-use Rattle.table.specs.Modes.{isAutomatic}
-use Rattle.engine.specs.Sensing.{pvOf, setpointOf, targetOf}
+use Rattle.table.specs.Modes.{isAutomatic, isCascade}
+use Rattle.profile.specs.declared.state.Profile.{Profile}
+use Rattle.profile.specs.declared.state.Moved.{Moved}
+use Rattle.profile.specs.Moves.Laws.{Within, advanced-within, advanced-scale}
+use Rattle.engine.specs.Sensing.{pvOf, setpointOf, targetOf, profiledOf}
 
 pub pv-high : (root : Bool) {scale raw : ℕ} → scale ≤ 65535 → raw ≤ scale → pvOf root scale raw ≤ scale
 unfolding pvOf
@@ -17,7 +20,21 @@ pv-high root {scale} {raw} h l =
     scale (omega (arith, mul-le-mul-right scale l)))
     (λ _. l)
 
-pub target-high : (r : Reading) (entry : Bool) {p scale : ℕ} → p ≤ scale → setpointOf r ≤ scale → targetOf r entry p ≤ scale
+pub target-high : (r : Reading) (entry runs : Bool) {p scale : ℕ} → p ≤ scale → setpointOf r ≤ scale → targetOf r entry runs p ≤ scale
 unfolding targetOf
-target-high r entry {p} {scale} h l =
-    by-test (λ n. n ≤ scale) (entry && isAutomatic (r .mode) && not (r .settings .mode1 .bumpless)) (λ _. h) (λ _. l)
+target-high r entry runs {p} {scale} h l =
+    by-test (λ n. n ≤ scale) (entry && isAutomatic (r .mode) && not (r .settings .mode1 .bumpless) && not runs) (λ _. h) (λ _. l)
+
+-- the profile stays in its ranges, and its setpoint within the scale, in Cascade too
+module _ (r : Reading) {q : Profile} (w : Within q) (target : ℕ) where
+  pub profiled-within : r .program .pair .duration ≤ 9999 → Within (profiledOf r q target .profile)
+  unfolding profiledOf
+  profiled-within d =
+      by-test (λ (m : Moved). Within (m .profile)) (isCascade (r .mode)) (λ _. w)
+      (λ _. advanced-within w (r .program) d (r .settings .stored .flags) (r .settings .tuning .period) target)
+
+  pub profiled-scale : {scale : ℕ} → target ≤ scale → r .program .pair .end ≤ scale → profiledOf r q target .setpoint ≤ scale
+  unfolding profiledOf
+  profiled-scale {scale} h e =
+      by-test (λ (m : Moved). m .setpoint ≤ scale) (isCascade (r .mode)) (λ _. h)
+      (λ _. advanced-scale (r .program) q target scale (w .fraction) h e (r .settings .stored .flags) (r .settings .tuning .period))

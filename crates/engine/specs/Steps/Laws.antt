@@ -13,14 +13,15 @@ use Rattle.table.specs.declared.mode.Mode.{Mode}
 use Rattle.table.specs.declared.reading.Reading.{Reading}
 use Rattle.table.specs.Modes.{isManual, isCascade}
 use Rattle.table.specs.Reading.{readingOf}
-use Rattle.table.specs.Reading.Laws.{input-low, input-high, one-format, decimals}
+use Rattle.table.specs.Words.Laws.{or-false}
+use Rattle.table.specs.Reading.Laws.{input-low, input-high, one-format, decimals, fair}
 use Rattle.control.specs.Errors.Laws.{error-high}
 use Rattle.carried.specs.declared.record.Carried.{Carried}
 use Rattle.carried.specs.Ranged.{Ranged}
 use Rattle.judging.specs.Judging.{readingCases}
 use Rattle.judging.specs.Judging.Laws.{passed, times-good, limits-good, setpoint-good}
-use Rattle.engine.specs.Sensing.{setpointOf, errorIn, sensedOf}
-use Rattle.engine.specs.Sensing.Laws.{pv-high, target-high}
+use Rattle.engine.specs.Sensing.{setpointOf, runsOn, targetOf, errorIn, sensedOf}
+use Rattle.engine.specs.Sensing.Laws.{pv-high, target-high, profiled-within, profiled-scale}
 use Rattle.engine.specs.Driving.{heldOf, drivenOf}
 use Rattle.engine.specs.Driving.Laws.{held-high, start-bias, start-output, Remembered, past-high, moved-output, moved-bias}
 use Rattle.engine.specs.Writing.{nextOf}
@@ -28,17 +29,18 @@ use Rattle.engine.specs.Steps.{stepOf}
 use Rattle.engine.specs.Premises.{Usable, Drivable}
 
 -- the reading of an accepted sample
-pub usable : (ws : List ℕ) (k : ℕ) (former : Mode) (raw : ℕ) → firstOf (readingCases (readingOf ws k former) raw) ≡ Accepted
-    → Usable (readingOf ws k former) raw
+pub usable : (ws : List ℕ) (k : ℕ) (former : Mode) (segment raw : ℕ) → segment ≤ 16 → firstOf (readingCases (readingOf ws k former segment) raw) ≡ Accepted
+    → Usable (readingOf ws k former segment) raw
 unfolding setpointOf
-usable ws k former raw e =
-    let r = readingOf ws k former in
+usable ws k former segment raw few e =
+    let r = readingOf ws k former segment in
     let s = r .settings in
     let p = passed r raw e in
-    let digits = decimals ws k former (p .digit) in
+    let clean = or-false (s .baddigit) (r .program .baddigit) (p .digit) in
+    let digits = decimals ws k former segment (clean .0) in
     let times = times-good (s .tuning) (p .times) in
     let limits = limits-good (s .limits) (s .mode2 .output .scale) (p .limits) in
-    let same : s .mode2 .output .scale ≡ s .mode2 .input .scale = ap (λ (f : Format). f .scale) (one-format ws k former) in
+    let same : s .mode2 .output .scale ≡ s .mode2 .input .scale = ap (λ (f : Format). f .scale) (one-format ws k former segment) in
     record {
       tuned = record {
         period = digits .period;
@@ -50,11 +52,12 @@ usable ws k former raw e =
       };
       limits = limits .0;
       high = limits .1;
-      scale = omega (arith, same, input-high ws k former);
-      some = omega (arith, same, input-low ws k former);
-      format = one-format ws k former;
+      scale = omega (arith, same, input-high ws k former segment);
+      some = omega (arith, same, input-low ws k former segment);
+      format = one-format ws k former segment;
       setpoint = setpoint-good (isCascade (r .mode)) _ (s .stored .setpoint) (s .pointer) (r .remote) (p .setpoint);
       input = ltb-false _ _ (p .above);
+      program = fair ws k former segment few (clean .1) (p .ends);
     }
 
 -- so the terms can run
@@ -67,7 +70,9 @@ drivable {r} {c} {raw} u g =
     let same : scale ≡ s .mode2 .input .scale = ap (λ (f : Format). f .scale) (u .format) in
     let pv : x .pv ≤ scale = rw same (pv-high (s .mode1 .root) (omega (arith, same, u .scale)) (u .input)) in
     let own : setpointOf r ≤ scale = omega (arith, same, u .setpoint) in
-    let target = target-high r (x .entry) pv own in
+    let runs = runsOn (r .program) (c .state .profile) in
+    let end : r .program .pair .end ≤ scale = omega (arith, same, u .program .end) in
+    let target = profiled-scale r (g .profile) (targetOf r (x .entry) runs (x .pv)) (target-high r (x .entry) runs pv own) end in
     let error = error-high (s .mode1 .squared) (s .mode1 .deadband) (s .deadband) (u .some) target pv in
     let held : heldOf s ≤ 65535 = omega (arith, held-high s (u .limits), u .high, u .scale) in
     let kept : Remembered (c .past) = record { last = g .last; prior = g .prior; error = g .error } in
@@ -87,7 +92,7 @@ drivable {r} {c} {raw} u g =
 
 -- and the record is in range again
 pub stepped-ranged : {r : Reading} {c : Carried} {raw : ℕ} → Usable r raw → Ranged c → Ranged (stepOf r c raw .carried)
-unfolding stepOf nextOf drivenOf
+unfolding stepOf nextOf drivenOf sensedOf
 stepped-ranged {r} {c} {raw} u g =
     let m = drivable u g in
     let out = moved-output m (isManual (r .mode)) in
@@ -98,4 +103,5 @@ stepped-ranged {r} {c} {raw} u g =
       error = m .error;
       last = m .pv;
       prior = by-test (λ n. n ≤ 65535) (c .sampled) (λ _. g .last) (λ _. m .pv);
+      profile = profiled-within r (g .profile) _ (u .program .duration);
     }

@@ -11,7 +11,7 @@ use Rattle.table.specs.Words.{blockAt}
 use Rattle.engine.specs.declared.writing.Written.{Written}
 use Rattle.engine.specs.Writing.{writtenTo}
 
--- i is none of the six words of the loop at base
+-- i is none of the eight words of the loop at base
 pub record Other (base i : ℕ) : Type 0 where
   pub mode : i ≡ base → ⊥
   pub setpoint : i ≡ base + 2 → ⊥
@@ -19,8 +19,10 @@ pub record Other (base i : ℕ) : Type 0 where
   pub bias : i ≡ base + 4 → ⊥
   pub output : i ≡ base + 5 → ⊥
   pub status : i ≡ base + 6 → ⊥
+  pub flags : i ≡ base + 27 → ⊥
+  pub fault : i ≡ base + 29 → ⊥
 
--- the six words of the loop at base are those given
+-- the eight words of the loop at base are those given
 pub record There (ws : List ℕ) (base : ℕ) (w : Written) : Type 0 where
   pub word : getD ws base 0 ≡ w .word
   pub setpoint : getD ws (base + 2) 0 ≡ w .setpoint
@@ -28,6 +30,8 @@ pub record There (ws : List ℕ) (base : ℕ) (w : Written) : Type 0 where
   pub bias : getD ws (base + 4) 0 ≡ w .bias
   pub output : getD ws (base + 5) 0 ≡ w .output
   pub status : getD ws (base + 6) 0 ≡ w .status
+  pub flags : getD ws (base + 27) 0 ≡ w .flags
+  pub fault : getD ws (base + 29) 0 ≡ w .fault
 
 below : (l : List ℕ) (i v j : ℕ) → j < i → getD (set l i v) j 0 ≡ getD l j 0
 below l i v j h = getD-set-other l i j v 0 (λ e. omega (arith, e))
@@ -46,9 +50,11 @@ module _ (ws : List ℕ) (base : ℕ) (w : Written) where
       let bias : i ≢ base + 4 = o .bias in
       let output : i ≢ base + 5 = o .output in
       let status : i ≢ base + 6 = o .status in
+      let flags : i ≢ base + 27 = o .flags in
+      let fault : i ≢ base + 29 = o .fault in
       simp getD-set-other
 
-  -- each of the six holds what was given for it: the stores behind it are to higher words
+  -- each of the eight holds what was given for it: the stores behind it are to higher words
   pub written-there : base + 32 ≤ length ws → There (writtenTo ws base w) base w
   unfolding writtenTo
   written-there h =
@@ -57,18 +63,25 @@ module _ (ws : List ℕ) (base : ℕ) (w : Written) where
       let w3 = set w2 (base + 3) (w .pv) in
       let w4 = set w3 (base + 4) (w .bias) in
       let w5 = set w4 (base + 5) (w .output) in
-      let p6 : (j : ℕ) → j < base + 6 → getD (set w5 (base + 6) (w .status)) j 0 ≡ getD w5 j 0 = below w5 (base + 6) (w .status) in
-      let p5 : (j : ℕ) → j < base + 5 → getD (set w5 (base + 6) (w .status)) j 0 ≡ getD w4 j 0 = λ j k. p6 j (omega arith) ∙ below w4 (base + 5) (w .output) j k in
-      let p4 : (j : ℕ) → j < base + 4 → getD (set w5 (base + 6) (w .status)) j 0 ≡ getD w3 j 0 = λ j k. p5 j (omega arith) ∙ below w3 (base + 4) (w .bias) j k in
-      let p3 : (j : ℕ) → j < base + 3 → getD (set w5 (base + 6) (w .status)) j 0 ≡ getD w2 j 0 = λ j k. p4 j (omega arith) ∙ below w2 (base + 3) (w .pv) j k in
-      let p2 : (j : ℕ) → j < base + 2 → getD (set w5 (base + 6) (w .status)) j 0 ≡ getD w0 j 0 = λ j k. p3 j (omega arith) ∙ below w0 (base + 2) (w .setpoint) j k in
+      let w6 = set w5 (base + 6) (w .status) in
+      let w27 = set w6 (base + 27) (w .flags) in
+      let all = set w27 (base + 29) (w .fault) in
+      let p29 : (j : ℕ) → j < base + 29 → getD all j 0 ≡ getD w27 j 0 = below w27 (base + 29) (w .fault) in
+      let p27 : (j : ℕ) → j < base + 27 → getD all j 0 ≡ getD w6 j 0 = λ j k. p29 j (omega arith) ∙ below w6 (base + 27) (w .flags) j k in
+      let p6 : (j : ℕ) → j < base + 6 → getD all j 0 ≡ getD w5 j 0 = λ j k. p27 j (omega arith) ∙ below w5 (base + 6) (w .status) j k in
+      let p5 : (j : ℕ) → j < base + 5 → getD all j 0 ≡ getD w4 j 0 = λ j k. p6 j (omega arith) ∙ below w4 (base + 5) (w .output) j k in
+      let p4 : (j : ℕ) → j < base + 4 → getD all j 0 ≡ getD w3 j 0 = λ j k. p5 j (omega arith) ∙ below w3 (base + 4) (w .bias) j k in
+      let p3 : (j : ℕ) → j < base + 3 → getD all j 0 ≡ getD w2 j 0 = λ j k. p4 j (omega arith) ∙ below w2 (base + 3) (w .pv) j k in
+      let p2 : (j : ℕ) → j < base + 2 → getD all j 0 ≡ getD w0 j 0 = λ j k. p3 j (omega arith) ∙ below w0 (base + 2) (w .setpoint) j k in
       record {
         word = p2 base (omega arith) ∙ getD-set-same ws base (w .word) 0 (omega arith);
         setpoint = p3 (base + 2) (omega arith) ∙ getD-set-same w0 (base + 2) (w .setpoint) 0 (simp length-set (omega arith));
         pv = p4 (base + 3) (omega arith) ∙ getD-set-same w2 (base + 3) (w .pv) 0 (simp length-set (omega arith));
         bias = p5 (base + 4) (omega arith) ∙ getD-set-same w3 (base + 4) (w .bias) 0 (simp length-set (omega arith));
         output = p6 (base + 5) (omega arith) ∙ getD-set-same w4 (base + 5) (w .output) 0 (simp length-set (omega arith));
-        status = getD-set-same w5 (base + 6) (w .status) 0 (simp length-set (omega arith));
+        status = p27 (base + 6) (omega arith) ∙ getD-set-same w5 (base + 6) (w .status) 0 (simp length-set (omega arith));
+        flags = p29 (base + 27) (omega arith) ∙ getD-set-same w6 (base + 27) (w .flags) 0 (simp length-set (omega arith));
+        fault = getD-set-same w27 (base + 29) (w .fault) 0 (simp length-set (omega arith));
       }
 
   -- the loop's 32 words, written by themselves
@@ -82,4 +95,6 @@ module _ (ws : List ℕ) (base : ℕ) (w : Written) where
       let h4 : 4 < 32 = omega arith in
       let h5 : 5 < 32 = omega arith in
       let h6 : 6 < 32 = omega arith in
+      let h27 : 27 < 32 = omega arith in
+      let h29 : 29 < 32 = omega arith in
       rw first (simp (drop-set-add, take-set-lt))

@@ -17,11 +17,11 @@ use Rattle.judging.specs.Judging.{badTimes, badLimits, badSetpoint, read
 pub passed : (r : Reading) (raw : ℕ) → firstOf (readingCases r raw) ≡ Accepted → Passed r raw
 passed r raw e =
     let no = accepted-at (readingCases r raw) e in
-    record { digit = no 0; modes = no 1; times = no 2; limits = no 3; setpoint = no 4; above = no 5 }
+    record { digit = no 0; modes = no 1; ends = no 2; times = no 3; limits = no 4; setpoint = no 5; above = no 6 }
 
 -- and the reverse
 pub passing : (r : Reading) (raw : ℕ) → Passed r raw → firstOf (readingCases r raw) ≡ Accepted
-passing r raw p = rw (p .digit, p .modes, p .times, p .limits, p .setpoint, p .above)
+passing r raw p = rw (p .digit, p .modes, p .ends, p .times, p .limits, p .setpoint, p .above)
 
 -- ---- and what a group that has passed says
 

@@ -1,7 +1,7 @@
 -- The laws of the refusals: a number above 0 is a refusal's, and where a list of cases accepts, no condition of it holds.
 use Prim.Native.Nat.{ℕ, zero, suc, _≤_, _<_}
 use native.Mathlib.Omega.{arith}
-use mathlib.Core.Path.{_≡_, refl}
+use mathlib.Core.Path.{_≡_, refl, sym}
 use mathlib.Core.Bool.{Bool, true, false, cond}
 use mathlib.Core.List.{List, [], _∷_, _++_}
 use Rattle.refusals.specs.declared.Refusal.{Refusal}
@@ -59,3 +59,17 @@ accepted-rest (x ∷ l) m e =
     let p = passed (x .holds) (x .why) (firstOf (l ++ m)) e in
     let q = accepted-rest l m (p .1) in
     (rw (p .0) (q .0), q .1)
+
+-- a list that refuses refuses so, whatever follows; one that accepts leaves the answer to what follows
+pub refused-first : (l m : List Case) {why : Refusal} → firstOf l ≡ Refused why → firstOf (l ++ m) ≡ Refused why
+refused-first [] m e = absurd (never (sym e))
+refused-first (x ∷ l) m {why} e = go (x .holds) (refused-first l m) e
+  where
+    go : (b : Bool) → (firstOf l ≡ Refused why → firstOf (l ++ m) ≡ Refused why) → cond b (Refused (x .why)) (firstOf l) ≡ Refused why
+        → cond b (Refused (x .why)) (firstOf (l ++ m)) ≡ Refused why
+    go true rest e = e
+    go false rest e = rest e
+
+pub accepted-first : (l m : List Case) → firstOf l ≡ Accepted → firstOf (l ++ m) ≡ firstOf m
+accepted-first [] m e = refl
+accepted-first (x ∷ l) m e = let p = passed (x .holds) (x .why) (firstOf l) e in rw (p .0) (accepted-first l m (p .1))

@@ -1,18 +1,21 @@
 -- The laws of a reading: what it depends on, and what its words are.
 use Prim.Native.Nat.{ℕ, _+_, _≤_}
-use mathlib.Core.Path.{_≡_, refl}
+use mathlib.Core.Path.{_≡_, refl, sym, ap, _∙_}
 use mathlib.Core.Bool.{Bool, true, false, cond}
 use mathlib.Core.List.{List}
-use lib.Dec.{lit<}
+use lib.Dec.{lit<, eqb}
+use borrow.Author.Tests.{eqb-true}
 use lib.ListN.{getD}
 use Rattle.table.specs.declared.mode.Mode.{Mode}
 use Rattle.table.specs.declared.reading.Reading.{Reading}
 use Rattle.table.specs.Words.{baseOf, blockAt}
-use Rattle.table.specs.Words.Laws.{block-at, scale-low, scale-high}
+use Rattle.table.specs.Words.Laws.{and-true, block-at, scale-low, scale-high}
 use Rattle.table.specs.Modes.{isCascade}
 use Rattle.table.specs.Settings.{mode2Of, settingsOf}
 use Rattle.table.specs.Settings.Laws.{Decimals, tuning-high}
-use Rattle.table.specs.Reading.{remoteOf, readingOf}
+use Rattle.table.specs.Programs.{faultOf}
+use Rattle.table.specs.Programs.Laws.{Fair, good-address, program-on, program-local, program-fair}
+use Rattle.table.specs.Reading.{remoteOf, tableOf, readingOf}
 
 -- ---- what a reading depends on
 
@@ -22,43 +25,65 @@ chosen false h = refl
 
 -- the same reading under another loop's number
 abbrev pub numbered : ℕ → Reading → Reading
-numbered k r = record { number = k; settings = r .settings; mode = r .mode; remote = r .remote }
+numbered k r = record { number = k; settings = r .settings; mode = r .mode; remote = r .remote; program = r .program }
 
--- the loop's block and, in Cascade, the word pointed to: two loops of any two tables that agree on these are read alike
-pub reading-local : (ws ws′ : List ℕ) (k k′ : ℕ) (former : Mode) → blockAt ws (baseOf k) ≡ blockAt ws′ (baseOf k′)
-    → (isCascade (readingOf ws k former .mode) ≡ true
-    → getD ws (readingOf ws k former .settings .pointer) 0 ≡ getD ws′ (readingOf ws k former .settings .pointer) 0)
-    → readingOf ws k former ≡ numbered k (readingOf ws′ k′ former)
+-- word 28 is one of the loop's block
+pub table-word : (ws : List ℕ) (k : ℕ) → getD (blockAt ws (baseOf k)) 28 0 ≡ tableOf ws k
+table-word ws k = block-at ws (baseOf k) 28 (lit< tt)
+
+-- the loop's block, in Cascade the word pointed to, and the ramp/soak table where there is a program: two loops of any two tables that agree on these
+-- are read alike
+pub reading-local : (ws ws′ : List ℕ) (k k′ : ℕ) (former : Mode) (segment : ℕ) → blockAt ws (baseOf k) ≡ blockAt ws′ (baseOf k′)
+    → (isCascade (readingOf ws k former segment .mode) ≡ true
+    → getD ws (readingOf ws k former segment .settings .pointer) 0 ≡ getD ws′ (readingOf ws k former segment .settings .pointer) 0)
+    → (readingOf ws k former segment .program .on ≡ true → blockAt ws (tableOf ws k) ≡ blockAt ws′ (tableOf ws k))
+    → readingOf ws k former segment ≡ numbered k (readingOf ws′ k′ former segment)
 unfolding readingOf remoteOf
-reading-local ws ws′ k k′ former block pointed = rw (← block) (rw (chosen _ pointed) refl)
+reading-local ws ws′ k k′ former segment block pointed table =
+    let same : tableOf ws′ k′ ≡ tableOf ws k = sym (table-word ws′ k′) ∙ ap (λ (w : List ℕ). getD w 28 0) (sym block) ∙ table-word ws k in
+    rw (← block, same) (rw (chosen _ pointed, program-local ws _ _ _ segment ws′ table) refl)
 
 -- ---- what is known of every reading
 
-module _ (ws : List ℕ) (k : ℕ) (former : Mode) where
+module _ (ws : List ℕ) (k : ℕ) (former : Mode) (segment : ℕ) where
   -- words 24 and 25
-  pub limit-low : readingOf ws k former .settings .limits .low ≡ getD ws (baseOf k + 24) 0
+  pub limit-low : readingOf ws k former segment .settings .limits .low ≡ getD ws (baseOf k + 24) 0
   unfolding readingOf settingsOf
   limit-low = block-at ws (baseOf k) 24 (lit< tt)
 
-  pub limit-high : readingOf ws k former .settings .limits .high ≡ getD ws (baseOf k + 25) 0
+  pub limit-high : readingOf ws k former segment .settings .limits .high ≡ getD ws (baseOf k + 25) 0
   unfolding readingOf settingsOf
   limit-high = block-at ws (baseOf k) 25 (lit< tt)
 
   -- a full scale is a word, and not 0
-  pub input-low : 4095 ≤ readingOf ws k former .settings .mode2 .input .scale
+  pub input-low : 4095 ≤ readingOf ws k former segment .settings .mode2 .input .scale
   unfolding readingOf settingsOf mode2Of
   input-low = scale-low (getD (blockAt ws (baseOf k)) 1 0)
 
-  pub input-high : readingOf ws k former .settings .mode2 .input .scale ≤ 65535
+  pub input-high : readingOf ws k former segment .settings .mode2 .input .scale ≤ 65535
   unfolding readingOf settingsOf mode2Of
   input-high = scale-high (getD (blockAt ws (baseOf k)) 1 0)
 
   -- both formats are the same
-  pub one-format : readingOf ws k former .settings .mode2 .output ≡ readingOf ws k former .settings .mode2 .input
+  pub one-format : readingOf ws k former segment .settings .mode2 .output ≡ readingOf ws k former segment .settings .mode2 .input
   unfolding readingOf settingsOf mode2Of
   one-format = refl
 
   -- words of good digits are at most 9,999
-  pub decimals : readingOf ws k former .settings .baddigit ≡ false → Decimals (readingOf ws k former .settings .tuning)
+  pub decimals : readingOf ws k former segment .settings .baddigit ≡ false → Decimals (readingOf ws k former segment .settings .tuning)
   unfolding readingOf settingsOf
   decimals e = tuning-high (blockAt ws (baseOf k)) e
+
+  -- where there is a program, its table stands inside the words
+  pub table-inside : readingOf ws k former segment .program .on ≡ true → tableOf ws k ≤ 992
+  unfolding readingOf
+  table-inside e =
+      let at = tableOf ws k in
+      let bit = settingsOf (blockAt ws (baseOf k)) .mode1 .profile in
+      good-address at (eqb-true (faultOf at) 0 (and-true bit (eqb (faultOf at) 0) (sym (program-on ws _ at _ segment) ∙ e) .1)) .1
+
+  -- a table that has passed its tests has a fair pair
+  pub fair : segment ≤ 16 → readingOf ws k former segment .program .baddigit ≡ false → readingOf ws k former segment .program .highend ≡ false
+      → Fair (readingOf ws k former segment .program) (readingOf ws k former segment .settings .mode2 .input .scale)
+  unfolding readingOf
+  fair h d e = program-fair ws _ _ _ segment h d e

@@ -3,9 +3,9 @@ use Prim.Native.Nat.{ℕ, zero, suc, _+_, _*_, _/_, _%_, _^_, _≤_, _<_}
 use native.Mathlib.Omega.{arith}
 use native.Mathlib.Nat.{add-sub-of-le}
 use mathlib.Core.Path.{_≡_, refl}
-use mathlib.Core.Bool.{Bool, true, false, cond, _||_}
+use mathlib.Core.Bool.{Bool, true, false, cond, _&&_, _||_}
 use mathlib.Core.List.{List, [], _∷_}
-use lib.ListN.{getD}
+use lib.ListN.{length, getD, length-take, length-drop}
 use lib.Seq.{getD-take, getD-drop}
 use lib.Pow.{shl-shr, shr-shr}
 use lib.Dec.{ltb}
@@ -16,6 +16,10 @@ use Rattle.table.specs.Words.{bit, bcd, badDigit, clearRequests, formatO
 pub or-false : (a b : Bool) → (a || b) ≡ false → (a ≡ false) × (b ≡ false)
 or-false true b e = let z : true ≡ false = e in (z, cc)
 or-false false b e = (refl, e)
+
+pub and-true : (a b : Bool) → (a && b) ≡ true → (a ≡ true) × (b ≡ true)
+and-true true b e = (refl, e)
+and-true false b e = let z : false ≡ true = e in (z, cc)
 
 test-at : (x : Bool) (l : List Bool) → x ≡ false → ((i : ℕ) → getD l i false ≡ false) → (i : ℕ) → getD (x ∷ l) i false ≡ false
 test-at x l p q zero = p
@@ -72,3 +76,7 @@ clear-high word k h = rw (← add-sub-of-le h, ← shr-shr word 3, ← shr-shr (
 -- word i of a block is word base + i of the table
 pub block-at : (words : List ℕ) (base i : ℕ) → i < 32 → getD (blockAt words base) i 0 ≡ getD words (base + i) 0
 block-at words base i h = rw (getD-take, getD-drop)
+
+-- a block has 32 words
+pub block-length : (words : List ℕ) (base : ℕ) → base + 32 ≤ length words → length (blockAt words base) ≡ 32
+block-length words base h = simp (length-take, length-drop) (omega arith)

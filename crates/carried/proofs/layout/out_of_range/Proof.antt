@@ -56,10 +56,45 @@ array-copy-out-outside-8 c = search needs
 outside-requires-8 : tie.Need-outside-requires-8
 outside-requires-8 c κs = search needs
 
+array-copy-out-outside-9 : tie.Need-array-copy-out-outside-9
+array-copy-out-outside-9 c = search needs
+
+outside-requires-9 : tie.Need-outside-requires-9
+outside-requires-9 c κs = search needs
+
+array-copy-out-outside-10 : tie.Need-array-copy-out-outside-10
+array-copy-out-outside-10 c = search needs
+
+outside-requires-10 : tie.Need-outside-requires-10
+outside-requires-10 c κs = search needs
+
+array-copy-out-outside-11 : tie.Need-array-copy-out-outside-11
+array-copy-out-outside-11 c = search needs
+
+outside-requires-11 : tie.Need-outside-requires-11
+outside-requires-11 c κs = search needs
+
+array-copy-out-outside-12 : tie.Need-array-copy-out-outside-12
+array-copy-out-outside-12 c = search needs
+
+outside-requires-12 : tie.Need-outside-requires-12
+outside-requires-12 c κs = search needs
+
+array-copy-out-outside-13 : tie.Need-array-copy-out-outside-13
+array-copy-out-outside-13 c = search needs
+
+outside-requires-13 : tie.Need-outside-requires-13
+outside-requires-13 c κs = search needs
+
 returns : tie.Need-returns
 unfolding outOfRange
 returns c =
-    let c7 = c .before .before in
+    let c12 = c .before .before in
+    let c11 = c12 .before .before in
+    let c10 = c11 .before .before in
+    let c9 = c10 .before .before in
+    let c8 = c9 .before .before in
+    let c7 = c8 .before .before in
     let c6 = c7 .before .before in
     let c5 = c6 .before .before in
     let c4 = c5 .before .before in
@@ -67,7 +102,7 @@ returns c =
     let c2 = c3 .before .before in
     let c1 = c2 .before .before in
     let l = c1 .before .before .args .t1 in
-    simp (c1 .outside .ensures, c2 .outside2 .ensures, c3 .outside3 .ensures, c4 .outside4 .ensures, c5 .outside5 .ensures, c6 .outside6 .ensures, c7 .outside7 .ensures, c .outside8 .ensures)
+    simp (c1 .outside .ensures, c2 .outside2 .ensures, c3 .outside3 .ensures, c4 .outside4 .ensures, c5 .outside5 .ensures, c6 .outside6 .ensures, c7 .outside7 .ensures, c8 .outside8 .ensures, c9 .outside9 .ensures, c10 .outside10 .ensures, c11 .outside11 .ensures, c12 .outside12 .ensures, c .outside13 .ensures)
     (simp (
       toZ-ofZ {w = w64} {z = getD l 0 (pos 0)} (search needs),
       toZ-ofZ {w = w64} {z = getD l 1 (pos 0)} (search needs),
@@ -77,6 +112,11 @@ returns c =
       toZ-ofZ {w = w64} {z = getD l 5 (pos 0)} (search needs),
       toZ-ofZ {w = w64} {z = getD l 6 (pos 0)} (search needs),
       toZ-ofZ {w = w64} {z = getD l 7 (pos 0)} (search needs),
+      toZ-ofZ {w = w64} {z = getD l 8 (pos 0)} (search needs),
+      toZ-ofZ {w = w64} {z = getD l 9 (pos 0)} (search needs),
+      toZ-ofZ {w = w64} {z = getD l 10 (pos 0)} (search needs),
+      toZ-ofZ {w = w64} {z = getD l 11 (pos 0)} (search needs),
+      toZ-ofZ {w = w64} {z = getD l 12 (pos 0)} (search needs),
     ))
 
 pub out-of-range-spec : {M : Type 1} → statement M
@@ -99,4 +139,14 @@ out-of-range-spec =
     outside-requires-7
     array-copy-out-outside-8
     outside-requires-8
+    array-copy-out-outside-9
+    outside-requires-9
+    array-copy-out-outside-10
+    outside-requires-10
+    array-copy-out-outside-11
+    outside-requires-11
+    array-copy-out-outside-12
+    outside-requires-12
+    array-copy-out-outside-13
+    outside-requires-13
     returns)

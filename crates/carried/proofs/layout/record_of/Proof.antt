@@ -39,22 +39,25 @@ word-of-requires-2 c κs =
     let s = c .before .before .before .before .before in
     rw (toZ-ofZ {w = w64} {z = getD (s .args .t1) 4 (pos 0)} (search needs)) (rows-in (s .args .t1) (s .pre) .prior)
 
-array-copy-out-t8 : tie.Need-array-copy-out-t8
-array-copy-out-t8 c = search needs
+profile-of-requires : tie.Need-profile-of-requires
+profile-of-requires c κs = search needs
 
-array-copy-out-t19 : tie.Need-array-copy-out-t19
-array-copy-out-t19 c = search needs
+array-copy-out-t9 : tie.Need-array-copy-out-t9
+array-copy-out-t9 c = search needs
 
-array-copy-out-t22 : tie.Need-array-copy-out-t22
-array-copy-out-t22 c = search needs
+array-copy-out-t21 : tie.Need-array-copy-out-t21
+array-copy-out-t21 c = search needs
 
-array-copy-out-t26 : tie.Need-array-copy-out-t26
-array-copy-out-t26 c = search needs
+array-copy-out-t24 : tie.Need-array-copy-out-t24
+array-copy-out-t24 c = search needs
 
-array-copy-out-t30 : tie.Need-array-copy-out-t30
-array-copy-out-t30 c = search needs
+array-copy-out-t28 : tie.Need-array-copy-out-t28
+array-copy-out-t28 c = search needs
 
-held : (c : tie.After-t30) → let l = c .before .before .before .before .before .before .before .before .before .before .before .args .t1 in
+array-copy-out-t32 : tie.Need-array-copy-out-t32
+array-copy-out-t32 c = search needs
+
+held : (c : tie.After-t32) → let l = c .before .before .before .before .before .before .before .before .before .before .before .before .args .t1 in
     Same l 0 × Same l 1 × Same l 2 × Same l 3 × Same l 4 × Same l 5 × Same l 6 × Same l 7
 held c = (
   toZ-ofZ (search needs),
@@ -70,11 +73,13 @@ held c = (
 returns : tie.Need-returns
 unfolding recordFrom
 returns c =
-    let p = c .before .before .before .before .before in
+    let f = c .before .before .before .before .before in
+    let p = f .before in
     let l = p .before .before in
     let m = l .before .before in
     let h = held c in
     simp (
+      f .profile-of .ensures,
       m .mode-from .ensures ∙ ap modeFrom (h .0),
       h .1,
       h .2,
@@ -95,9 +100,10 @@ record-of-spec =
     word-of-requires
     array-copy-out-word-of-2
     word-of-requires-2
-    array-copy-out-t8
-    array-copy-out-t19
-    array-copy-out-t22
-    array-copy-out-t26
-    array-copy-out-t30
+    profile-of-requires
+    array-copy-out-t9
+    array-copy-out-t21
+    array-copy-out-t24
+    array-copy-out-t28
+    array-copy-out-t32
     returns)

@@ -1,25 +1,24 @@
--- `desk::carry_out` meets its contract: the reading is that of the record's mode, judged as the definition judges it, and stepped.
+-- `desk::carry_out` meets its contract: the reading is that of the record, judged as the definition judges it, and stepped.
 use native.Mathlib.Omega.{arith}
 use mathlib.Core.Path.{_≡_, sym, ap, _∙_}
 use denote.Ref.{now}
 use Rattle.refusals.specs.declared.Answer.the-variants.{Accepted}
 use Rattle.refusals.specs.Refusals.{firstOf}
 use Rattle.table.specs.declared.reading.Reading.{Reading}
-use Rattle.table.specs.Reading.{readingOf}
 use Rattle.table.specs.Reading.Laws.{input-high}
 use Rattle.carried.specs.declared.record.Carried.{Carried}
 use Rattle.judging.specs.Judging.{readingCases}
 use Rattle.engine.specs.Steps.{stepOf}
 use Rattle.engine.specs.Steps.Laws.{usable}
 use Rattle.engine.specs.Premises.{Usable}
-use Rattle.desk.specs.Desk.{lent, judgedAnswer, stepAt, sampleDone}
+use Rattle.desk.specs.Desk.{lent, readingBy, judgedAnswer, stepAt, sampleDone}
 use Rattle.desk.specs.Desk.Laws.{promised}
 use borrow.Author.Needs.{needs}
 use Rattle.desk.proofs.sampling.carry_out.Statement.{statement}
 use Rattle.desk.proofs.sampling.carry_out.Tie as tie
 
 read-loop-requires : tie.Need-read-loop-requires
-read-loop-requires c κs = search needs
+read-loop-requires c κs = let p = c .before .before .before .pre in (omega (arith, p .0), omega (arith, p .0), p .1 .1 .profile .segment)
 
 judge-requires : tie.Need-judge-requires
 judge-requires c κs = search needs
@@ -34,8 +33,8 @@ module _ (c : tie.After-judge) where
   start : tie.Start
   start = c .before .before .before .before .before
 
-  -- by the mode of the record that was handed over
-  judged : let a = start .args in c .judge .result ≡ firstOf (readingCases (readingOf (now (a .words)) (a .number) (a .carried .state .mode)) (a .raw))
+  -- by the record that was handed over
+  judged : let a = start .args in c .judge .result ≡ firstOf (readingCases (readingBy (now (a .words)) (a .number) (a .carried)) (a .raw))
   unfolding start
   judged = c .judge .ensures ∙ ap (λ (r : Reading). firstOf (readingCases r (start .args .raw))) (c .before .read-loop .ensures)
 
@@ -44,7 +43,7 @@ module _ (c : tie.After-judge) where
   unfolding start
   answered =
       let a = start .args in
-      sym (judged ∙ ap (λ (x : Carried). firstOf (readingCases (readingOf (now (a .words)) (a .number) (x .state .mode)) (a .raw))) (start .pre .1 .0))
+      sym (judged ∙ ap (λ (x : Carried). firstOf (readingCases (readingBy (now (a .words)) (a .number) x) (a .raw))) (start .pre .1 .0))
 
 -- the arm that accepts
 accepted : (c : tie.After-enum-told) → c .before .before .judge .result ≡ Accepted
@@ -52,15 +51,15 @@ accepted c = c .enum-told .given .1
 
 -- and so what was read is usable, the raw PV within full scale
 read : (c : tie.After-enum-told) → let a = start (c .before .before) .args in
-    Usable (readingOf (now (a .words)) (a .number) (a .carried .state .mode)) (a .raw)
+    Usable (readingBy (now (a .words)) (a .number) (a .carried)) (a .raw)
 unfolding start
-read c = usable _ _ _ _ (sym (judged (c .before .before)) ∙ accepted c)
+read c = usable _ _ _ _ _ (start (c .before .before) .pre .1 .1 .profile .segment) (sym (judged (c .before .before)) ∙ accepted c)
 
 cast-step : tie.Need-cast-step
 unfolding start
 cast-step c =
     let a = start (c .before .before) .args in
-    omega (arith, read c .input, input-high (now (a .words)) (a .number) (a .carried .state .mode))
+    omega (arith, read c .input, input-high (now (a .words)) (a .number) (a .carried .state .mode) (a .carried .state .profile .segment))
 
 step-requires : tie.Need-step-requires
 unfolding start
@@ -75,7 +74,7 @@ stepped c =
     let a = s .args in
     c .step .ensures
     ∙ ap (λ (r : Reading). stepOf r (a .carried) (a .raw)) (j .before .read-loop .ensures)
-    ∙ ap (λ (x : Carried). stepOf (readingOf (now (a .words)) (a .number) (x .state .mode)) x (a .raw)) (s .pre .1 .0)
+    ∙ ap (λ (x : Carried). stepOf (readingBy (now (a .words)) (a .number) x) x (a .raw)) (s .pre .1 .0)
 
 write-words-requires : tie.Need-write-words-requires
 write-words-requires c κs = search needs
@@ -88,7 +87,7 @@ numbers-of-requires c κs = search needs
 
 put-numbers-requires : tie.Need-put-numbers-requires
 unfolding start
-put-numbers-requires c κs = let o = c .before in rw (o .slot-of .ensures) (start (o .before .before .before .before .before .before .before .before .before .before .before) .pre .0 .1)
+put-numbers-requires c κs = let o = c .before in rw (o .slot-of .ensures) (start (o .before .before .before .before .before .before .before .before .before .before .before) .pre .0 .2)
 
 same-length : tie.Need-same-length
 same-length c = search needs

@@ -2,6 +2,7 @@
 use borrow.Author.Needs.{needs}
 use Rattle.numbers.proofs.Machine.{got}
 use Rattle.engine.specs.Sensing.{sensedOf}
+use Rattle.engine.specs.Sensing.Laws.{profiled-within}
 use Rattle.engine.proofs.sensing.sensed_by.Statement.{statement}
 use Rattle.engine.proofs.sensing.sensed_by.Tie as tie
 
@@ -11,8 +12,22 @@ measured-requires c κs = search needs
 enters-requires : tie.Need-enters-requires
 enters-requires c κs = search needs
 
+runs-on-requires : tie.Need-runs-on-requires
+runs-on-requires c κs = search needs
+
 target-of-requires : tie.Need-target-of-requires
 target-of-requires c κs = search needs
+
+profiled-requires : tie.Need-profiled-requires
+profiled-requires c κs = search needs
+
+flags-after-requires : tie.Need-flags-after-requires
+flags-after-requires c κs =
+    let s = c .before .before .before .before .before .before .before .before .before in
+    rw (c .before .profiled .ensures) (profiled-within (s .args .reading) (s .pre .1) _ (s .pre .2) .segment)
+
+fault-after-requires : tie.Need-fault-after-requires
+fault-after-requires c κs = search needs
 
 error-in-requires : tie.Need-error-in-requires
 error-in-requires c κs = search needs
@@ -21,8 +36,31 @@ returns : tie.Need-returns
 unfolding sensedOf
 returns c =
     let e = c .error-in in
+    let p = c .before .before .before .before in
+    let t = p .before in
+    let n = t .before .before .before .before in
     simp (got (e .result) (e .ok))
-    (simp (e .ensures, c .before .target-of .ensures, c .before .before .enters .ensures, c .before .before .before .measured .ensures))
+    (simp (
+      e .ensures,
+      c .before .fault-after .ensures,
+      c .before .before .flags-after .ensures,
+      p .profiled .ensures,
+      t .target-of .ensures,
+      t .before .runs-on .ensures,
+      n .enters .ensures,
+      n .before .measured .ensures,
+    ))
 
 pub sensed-by-spec : {M : Type 1} → statement M
-sensed-by-spec = tie.close (tie.spec measured-requires enters-requires target-of-requires error-in-requires returns)
+sensed-by-spec =
+    tie.close
+    (tie.spec
+    measured-requires
+    enters-requires
+    runs-on-requires
+    target-of-requires
+    profiled-requires
+    flags-after-requires
+    fault-after-requires
+    error-in-requires
+    returns)

@@ -9,7 +9,7 @@ use Rattle.engine.proofs.stepping.step.Statement.{statement}
 use Rattle.engine.proofs.stepping.step.Tie as tie
 
 sensed-by-requires : tie.Need-sensed-by-requires
-sensed-by-requires c κs = c .before .before .pre .0 .some
+sensed-by-requires c κs = let p = c .before .before .pre in (p .0 .some, p .1 .profile, p .0 .program .duration)
 
 held-word-requires : tie.Need-held-word-requires
 held-word-requires c κs = search needs

@@ -1,4 +1,4 @@
--- `engine::write_words` meets its contract: its six stores are the definition's.
+-- `engine::write_words` meets its contract: its eight stores are the definition's.
 use native.Mathlib.Omega.{arith}
 use native.Mathlib.Nat.{add-zero}
 use lib.ListN.{length-set}
@@ -64,6 +64,24 @@ mul-words-6 c = search needs
 slice-write-words-6 : tie.Need-slice-write-words-6
 slice-write-words-6 c = simp length-set (omega arith)
 
+add-words-7 : tie.Need-add-words-7
+add-words-7 c = search needs
+
+mul-words-7 : tie.Need-mul-words-7
+mul-words-7 c = search needs
+
+slice-write-words-7 : tie.Need-slice-write-words-7
+slice-write-words-7 c = simp length-set (omega arith)
+
+add-words-8 : tie.Need-add-words-8
+add-words-8 c = search needs
+
+mul-words-8 : tie.Need-mul-words-8
+mul-words-8 c = search needs
+
+slice-write-words-8 : tie.Need-slice-write-words-8
+slice-write-words-8 c = simp length-set (omega arith)
+
 same-length : tie.Need-same-length
 same-length c = search needs
 
@@ -94,5 +112,11 @@ write-words-spec =
     add-words-6
     mul-words-6
     slice-write-words-6
+    add-words-7
+    mul-words-7
+    slice-write-words-7
+    add-words-8
+    mul-words-8
+    slice-write-words-8
     same-length
     returns)

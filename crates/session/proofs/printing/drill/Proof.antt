@@ -5,6 +5,7 @@ use mathlib.Core.Bool.{true}
 use borrow.Author.Tests.{lt-ltb, le-ltb}
 use lib.IntN.{pos}
 use lib.ListN.{replicate}
+use Rattle.carried.specs.Layout.{numberCount}
 use Rattle.desk.specs.Desk.{lent, fittingOf}
 use Rattle.desk.specs.Desk.Laws.{reset-sound}
 use Rattle.session.specs.Printed.{printedOf, printedWithin}
@@ -58,7 +59,7 @@ same-length-2 : tie.Need-same-length-2
 same-length-2 c = search needs
 
 -- the memory that is reset has its lengths
-zeros : fittingOf (lent (replicate 1024 0) (replicate 128 (pos 0))) ≡ true
+zeros : fittingOf (lent (replicate 1024 0) (replicate numberCount (pos 0))) ≡ true
 unfolding fittingOf
 zeros = refl
 

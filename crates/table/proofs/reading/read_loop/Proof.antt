@@ -32,14 +32,28 @@ mode-after-requires c κs = search needs
 read-remote-requires : tie.Need-read-remote-requires
 read-remote-requires c κs = search needs
 
+add-at : tie.Need-add-at
+add-at c = search needs
+
+mul-at : tie.Need-mul-at
+mul-at c = search needs
+
+shared-slice-read-at : tie.Need-shared-slice-read-at
+shared-slice-read-at c = search needs
+
+read-program-requires : tie.Need-read-program-requires
+read-program-requires c κs = search needs
+
 returns : tie.Need-returns
 unfolding readingOf
 returns c =
+    let r = c .before .before in
     simp (
-      c .read-remote .ensures,
-      c .before .mode-after .ensures,
-      c .before .before .before .read-settings .ensures,
-      c .before .before .before .before .before .base-of .ensures,
+      c .read-program .ensures,
+      r .read-remote .ensures,
+      r .before .mode-after .ensures,
+      r .before .before .before .read-settings .ensures,
+      r .before .before .before .before .before .base-of .ensures,
       add-sub-cancel-left,
     )
 
@@ -56,4 +70,8 @@ read-loop-spec =
     read-settings-requires
     mode-after-requires
     read-remote-requires
+    add-at
+    mul-at
+    shared-slice-read-at
+    read-program-requires
     returns)

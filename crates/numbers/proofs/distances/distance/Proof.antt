@@ -1,9 +1,9 @@
--- `alarms::distance` meets its contract: each arm rewrites with the test that led there.
+-- `numbers::distance` meets its contract: each arm rewrites with the test that led there.
 use borrow.Author.Needs.{needs}
 use borrow.Author.Tests.{lt-ltb, le-ltb}
-use Rattle.alarms.specs.Status.{apart}
-use Rattle.alarms.proofs.alarm.distance.Statement.{statement}
-use Rattle.alarms.proofs.alarm.distance.Tie as tie
+use Rattle.numbers.specs.Distances.{apart}
+use Rattle.numbers.proofs.distances.distance.Statement.{statement}
+use Rattle.numbers.proofs.distances.distance.Tie as tie
 
 sub-result : tie.Need-sub-result
 sub-result c = search needs

@@ -1,0 +1,45 @@
+-- `kexbardi::kexbardi_forecast` meets its contract: it is the desk's call, by its answer.
+use mathlib.Core.Path.{sym, ap, _∙_}
+use denote.Ref.{now}
+use Rattle.desk.specs.declared.forecasting.Foretold.{Foretold}
+use Rattle.kexbardi.specs.Interface.{toldBy}
+use borrow.Author.Needs.{needs}
+use Rattle.kexbardi.proofs.kexbardi_forecast.Statement.{statement}
+use Rattle.kexbardi.proofs.kexbardi_forecast.Tie as tie
+
+forecast-requires : tie.Need-forecast-requires
+forecast-requires c κs = search needs
+
+enum-known-answer : tie.Need-enum-known-answer
+enum-known-answer c = search needs
+
+number-of-requires : tie.Need-number-of-requires
+number-of-requires c κs = search needs
+
+enum-known-answer-2 : tie.Need-enum-known-answer-2
+enum-known-answer-2 c = search needs
+
+returns : tie.Need-returns
+returns c =
+    let h = c .before .before in
+    let f = h .before .before in
+    let a = f .before .before .args in
+    rw (c .number-of .ensures) (ap (λ (e : Foretold). toldBy e (now (a .samples))) (sym (h .answer .given .1) ∙ f .forecast .ensures))
+
+returns-2 : tie.Need-returns-2
+returns-2 c =
+    let h = c .before in
+    let f = h .before .before in
+    let a = f .before .before .args in
+    ap (λ (e : Foretold). toldBy e (now (a .samples))) (sym (h .answer2 .given .1) ∙ f .forecast .ensures)
+
+pub kexbardi-forecast-spec : {M : Type 1} → statement M
+kexbardi-forecast-spec =
+    tie.close
+    (tie.spec
+    forecast-requires
+    enum-known-answer
+    number-of-requires
+    enum-known-answer-2
+    returns
+    returns-2)

@@ -1,0 +1,2 @@
+-- A profile computed.
+pub mod Examples

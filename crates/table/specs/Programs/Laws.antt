@@ -1,0 +1,88 @@
+-- The laws of a program: what it depends on, and what is known of the pair that is read where the table has passed its tests.
+use Prim.Native.Nat.{ℕ, zero, suc, _+_, _-_, _*_, _/_, _≤_, _<_}
+use native.Mathlib.Omega.{arith}
+use mathlib.Core.Path.{_≡_, refl}
+use mathlib.Core.Bool.{Bool, true, false, cond, _&&_, _||_}
+use mathlib.Core.List.{List}
+use lib.ListN.{getD}
+use lib.Dec.{ltb, eqb}
+use borrow.Author.Tests.{ltb-false, eqb-true, eqb-false}
+use Rattle.table.specs.declared.program.Program.{Program}
+use Rattle.table.specs.Words.{badDigit, blockAt}
+use Rattle.table.specs.Words.Laws.{or-false, bcd-high}
+use Rattle.table.specs.Programs.{faultOf, pairAt, pairNumber, anyBelow, badDigitIn, highEndIn, programOf}
+
+-- ---- the tests of a table
+
+-- where no test below n holds, each is false
+none-below : (n : ℕ) (test : ℕ → Bool) → anyBelow n test ≡ false → (i : ℕ) → i < n → test i ≡ false
+unfolding anyBelow
+none-below zero test e i h = absurd (omega arith)
+none-below (suc n) test e i h =
+    let p = or-false (anyBelow n test) (test n) e in
+    go (p .1) (λ k. none-below n test (p .0) i k) (eqb i n) refl
+  where
+    go : test n ≡ false → (i < n → test i ≡ false) → (same : Bool) → eqb i n ≡ same → test i ≡ false
+    go last others true f = rw (eqb-true i n f) last
+    go last others false f = let other = eqb-false i n f in others (omega arith)
+
+-- a pair of a table without a bad digit, or without a high end
+pub pair-times : (table : List ℕ) (i : ℕ) → i < 8 → badDigitIn table ≡ false → (pairAt table i .slope ≤ 9999) × (pairAt table i .duration ≤ 9999)
+unfolding badDigitIn pairAt
+pair-times table i h e =
+    let test : ℕ → Bool = λ j. badDigit (getD table (4 * j + 1) 0) || badDigit (getD table (4 * j + 2) 0) in
+    let p = or-false (badDigit (getD table (4 * i + 1) 0)) (badDigit (getD table (4 * i + 2) 0)) (none-below 8 test e i h) in
+    (bcd-high _ (p .0), bcd-high _ (p .1))
+
+pub pair-end : (scale : ℕ) (table : List ℕ) (i : ℕ) → i < 8 → highEndIn scale table ≡ false → pairAt table i .end ≤ scale
+unfolding highEndIn pairAt
+pair-end scale table i h e = ltb-false _ _ (none-below 8 (λ j. ltb scale (getD table (4 * j + 0) 0)) e i h)
+
+-- ---- a program
+
+-- the address of a table without a fault
+pub good-address : (at : ℕ) → faultOf at ≡ 0 → (512 ≤ at) × (at ≤ 992)
+unfolding faultOf
+good-address at e = go (ltb at 512) (ltb 992 at) refl refl e
+  where
+    go : (a b : Bool) → ltb at 512 ≡ a → ltb 992 at ≡ b → _≡_ {A = ℕ} (cond a 1 (cond b 2 0)) 0 → (512 ≤ at) × (at ≤ 992)
+    go true b x y z = absurd (omega arith)
+    go false true x y z = absurd (omega arith)
+    go false false x y z = (ltb-false _ _ x, ltb-false _ _ y)
+
+-- what is known of a program whose table has passed: the pair's numbers are decimal, and its end is within the scale
+pub record Fair (p : Program) (scale : ℕ) : Type 0 where
+  pub slope : p .pair .slope ≤ 9999
+  pub duration : p .pair .duration ≤ 9999
+  pub end : p .pair .end ≤ scale
+
+module _ (words : List ℕ) (bit : Bool) (at scale segment : ℕ) where
+  pub program-on : programOf words bit at scale segment .on ≡ (bit && eqb (faultOf at) 0)
+  unfolding programOf
+  program-on = by (bit && eqb (faultOf at) 0) refl
+    where
+      by : (b : Bool) → (bit && eqb (faultOf at) 0) ≡ b → programOf words bit at scale segment .on ≡ (bit && eqb (faultOf at) 0)
+      by true e = rw e
+      by false e = rw e
+
+  pub program-fair : segment ≤ 16 → programOf words bit at scale segment .baddigit ≡ false → programOf words bit at scale segment .highend ≡ false
+      → Fair (programOf words bit at scale segment) scale
+  unfolding programOf
+  program-fair h d e = by (bit && eqb (faultOf at) 0) refl
+    where
+      by : (b : Bool) → (bit && eqb (faultOf at) 0) ≡ b → Fair (programOf words bit at scale segment) scale
+      by true f =
+          let few : pairNumber segment < 8 = omega arith in
+          let times = pair-times (blockAt words at) (pairNumber segment) few (rw f at d) in
+          rw f (record { slope = times .0; duration = times .1; end = pair-end scale (blockAt words at) (pairNumber segment) few (rw f at e) })
+      by false f = rw f (record { slope = omega arith; duration = omega arith; end = omega arith })
+
+  -- the table, where there is a program: any two memories that agree on it have the same
+  pub program-local : (words′ : List ℕ) → (programOf words bit at scale segment .on ≡ true → blockAt words at ≡ blockAt words′ at)
+      → programOf words bit at scale segment ≡ programOf words′ bit at scale segment
+  unfolding programOf
+  program-local words′ same = by (bit && eqb (faultOf at) 0) refl
+    where
+      by : (b : Bool) → (bit && eqb (faultOf at) 0) ≡ b → programOf words bit at scale segment ≡ programOf words′ bit at scale segment
+      by true f = rw (f, same (rw f refl))
+      by false f = rw f
