@@ -22,7 +22,8 @@ use Rattle.desk.specs.Desk.{Desk, lent, fittingOf, noLoop, resetAnswer, resetLe
 use Rattle.desk.specs.Desk.Laws.{sound, there-loop, answer-ranged, reset-sound, reset-numbers}
 use Rattle.desk.specs.Lists.{reset, store, sample, answerTo, deskAfter}
 use Rattle.desk.specs.Lists.Laws.{refused-call, unfit}
-use Rattle.kexbardi.specs.Interface.{lineLeft, toldBy}
+use Rattle.kexbardi.specs.Interface.{lineLeft}
+use Rattle.kexbardi_profiles.specs.Told.{toldBy}
 use Rattle.claims.specs.Calls.{Reserved, pv, bias, status, profile, Settled, Rows, Called}
 
 -- every answer is 0 or a number of N1 to N9

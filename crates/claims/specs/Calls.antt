@@ -14,7 +14,8 @@ use Rattle.carried.specs.Layout.{fieldCount, numberCount, slotOf, numbersAt, re
 use Rattle.judging.specs.Judging.{badModes, badTimes, badLimits, badSetpoint}
 use Rattle.desk.specs.Desk.{Desk, lent, fittingOf, resetAnswer, resetLeft, storeAnswer, storeLeft, readingAt, sampleAnswer, sampleLeft, remainingOf, forecastAt, fieldsAnswer, fieldsLeft}
 use Rattle.desk.specs.Lists.{Call, answerTo}
-use Rattle.kexbardi.specs.Interface.{lineLeft, toldBy}
+use Rattle.kexbardi.specs.Interface.{lineLeft}
+use Rattle.kexbardi_profiles.specs.Told.{toldBy}
 
 -- N6: the words of a loop that no store reaches
 pub data Reserved : ℕ → Type 0 where

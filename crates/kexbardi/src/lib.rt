@@ -1,19 +1,16 @@
-// The C interface on a desk (Q1 to Q4, Q10, Q11): reset, store, sample, a record's numbers read out, and a
-// profile's forecast.
+// The C interface on a desk (Q1 to Q4, Q10): reset, store, sample, and a record's numbers read out.
 // include/kexbardi.h declares it.
 //
 // Every function works on memory that the caller lends and keeps nothing between calls. It answers 0,
 // or the number of the refusal; a refusal leaves all lent memory as it was. A `&[T]` is a pointer and
 // then a length for a C caller, a `&mut [T; N]` a pointer.
 use desk::FIELDS;
-use desk::Foretold;
-use refusals::Answer;
 use refusals::number_of;
 ghost use mathlib.Core.Path.{_≡_};
 ghost use Prim.Native.Nat.{_≤_};
 ghost use Rattle.refusals.specs.Refusals.{numberOf};
-ghost use Rattle.desk.specs.Desk.{lent, resetAnswer, resetLeft, storeAnswer, storeLeft, sampleAnswer, sampleLeft, lineOf, fieldsAnswer, fieldsLeft, forecastAt};
-ghost use Rattle.kexbardi.specs.Interface.{lineBy, lineLeft, told, toldBy};
+ghost use Rattle.desk.specs.Desk.{lent, resetAnswer, resetLeft, storeAnswer, storeLeft, sampleAnswer, sampleLeft, lineOf, fieldsAnswer, fieldsLeft};
+ghost use Rattle.kexbardi.specs.Interface.{lineBy, lineLeft};
 
 // Q10: the version of functions and layout, major, minor and patch as MMmmpp: its one source (package/make).
 const VERSION: u32 = 40000;
@@ -84,24 +81,4 @@ pub extern "C" fn kexbardi_record(records: &[i64], number: u64, fields: &mut [i6
     ensures left { λ _. ⌜ now (fields .exit) ≡ fieldsLeft (now (records .entry)) number (now (fields .entry)) ⌝ }
 {
     number_of(desk::fields(records, number, fields))
-}
-
-// Q11: the samples that remain of a loop's profile. 5, 4, 7 or 8, and then the count stays.
-#[no_mangle]
-pub extern "C" fn kexbardi_forecast(
-    words: &[u16],
-    records: &[i64],
-    number: u64,
-    samples: &mut u64,
-) -> u8
-    ensures { λ r. ⌜ told r (now (samples .exit)) ≡ toldBy (forecastAt (lent (now (words .entry)) (now (records .entry))) number) (now (samples .entry)) ⌝ }
-{
-    let answer = desk::forecast(words, records, number);
-    match answer {
-        Foretold::Refused(why) => number_of(Answer::Refused(why)),
-        Foretold::Samples(n) => {
-            *samples = n;
-            0
-        }
-    }
 }

@@ -1,11 +1,11 @@
--- `kexbardi::kexbardi_forecast` meets its contract: it is the desk's call, by its answer.
+-- `kexbardi_profiles::kexbardi_forecast` meets its contract: it is the desk's call, by its answer.
 use mathlib.Core.Path.{sym, ap, _∙_}
 use denote.Ref.{now}
 use Rattle.desk.specs.declared.forecasting.Foretold.{Foretold}
-use Rattle.kexbardi.specs.Interface.{toldBy}
+use Rattle.kexbardi_profiles.specs.Told.{toldBy}
 use borrow.Author.Needs.{needs}
-use Rattle.kexbardi.proofs.kexbardi_forecast.Statement.{statement}
-use Rattle.kexbardi.proofs.kexbardi_forecast.Tie as tie
+use Rattle.kexbardi_profiles.proofs.kexbardi_forecast.Statement.{statement}
+use Rattle.kexbardi_profiles.proofs.kexbardi_forecast.Tie as tie
 
 forecast-requires : tie.Need-forecast-requires
 forecast-requires c κs = search needs

@@ -1,0 +1,2 @@
+-- The C interface on profiles.
+pub mod Told
