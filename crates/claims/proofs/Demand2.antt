@@ -22,7 +22,7 @@ use Rattle.carried.specs.Layout.{slotOf, outOfRange, recordFrom, numbersOf, num
 use Rattle.judging.specs.Judging.{readingCases, Passed}
 use Rattle.judging.specs.Judging.Laws.{passed, passing}
 use Rattle.engine.specs.declared.stepping.Stepped.{Stepped}
-use Rattle.engine.specs.Sensing.{setpointOf, targetOf, profiledOf, flagsAfter, faultAfter, sensedOf}
+use Rattle.engine.specs.Sensing.{setpointOf, targetOf, profiledOf, faultAfter, sensedOf}
 use Rattle.engine.specs.Driving.{drivenOf}
 use Rattle.engine.specs.Writing.{statusWord, writtenOf}
 use Rattle.engine.specs.Writing.Laws.{written-length, written-other, written-there, written-block}
@@ -110,7 +110,7 @@ line-block ws ws′ k k′ e =
 
 -- a step does not look at the loop's number
 step-numbered : (k : ℕ) (r : Reading) (c : Carried) (raw : ℕ) → stepOf (numbered k r) c raw ≡ stepOf r c raw
-unfolding stepOf sensedOf targetOf setpointOf profiledOf flagsAfter faultAfter drivenOf writtenOf statusWord
+unfolding stepOf sensedOf targetOf setpointOf profiledOf faultAfter drivenOf writtenOf statusWord
 step-numbered k r c raw = refl
 
 module _ (d d′ : Desk) (k k′ raw : ℕ) (agree : Agree d d′ k k′) where

@@ -14,9 +14,10 @@ use Rattle.profile.specs.declared.state.Profile.{Profile}
 use Rattle.profile.specs.Moves.{endedOf, advancedBy}
 use Rattle.profile.specs.Moves.Laws.{advanced-stays}
 use Rattle.profile.specs.Flags.{flagsOf}
+use Rattle.profile.specs.Samples.{sampledBy}
 use Rattle.profile.specs.Forecasts.Laws.{none-left, one-less}
 use Rattle.carried.specs.Layout.{recordAt}
-use Rattle.engine.specs.Sensing.{setpointOf, runsOn, targetOf, profiledOf, flagsAfter, faultAfter, sensedOf}
+use Rattle.engine.specs.Sensing.{setpointOf, runsOn, targetOf, profiledOf, faultAfter, sensedOf}
 use Rattle.engine.specs.Writing.{writtenOf, nextOf}
 use Rattle.engine.specs.Steps.{stepOf}
 use Rattle.desk.specs.Desk.{Desk, readingAt, stepAt}
@@ -25,7 +26,7 @@ use Rattle.claims.specs.Profiles.{Profiled}
 waiting : (d : Desk) (k raw : ℕ) → isCascade (readingAt d k .mode) ≡ true → let s = stepAt d k raw in
     (s .written .flags ≡ getD (d .words) (baseOf k + 27) 0) × (s .written .fault ≡ getD (d .words) (baseOf k + 29) 0)
     × (s .carried .state .profile ≡ recordAt (d .numbers) k .state .profile)
-unfolding stepOf writtenOf nextOf sensedOf profiledOf flagsAfter faultAfter readingOf settingsOf
+unfolding stepOf writtenOf nextOf sensedOf profiledOf faultAfter readingOf settingsOf
 waiting d k raw e = (
   rw e (block-at (d .words) (baseOf k) 27 (lit< tt)),
   rw e (block-at (d .words) (baseOf k) 29 (lit< tt)),
@@ -34,7 +35,7 @@ waiting d k raw e = (
 
 ending : (d : Desk) (k raw : ℕ) → isCascade (readingAt d k .mode) ≡ false → readingAt d k .program .on ≡ false → let s = stepAt d k raw in
     (s .written .flags ≡ 0) × (s .carried .state .profile ≡ endedOf (recordAt (d .numbers) k .state .profile))
-unfolding stepOf writtenOf nextOf sensedOf profiledOf flagsAfter advancedBy flagsOf
+unfolding stepOf writtenOf nextOf sensedOf profiledOf sampledBy advancedBy flagsOf
 ending d k raw e f = (rw (e, f), rw (e, f))
 
 -- the test of the entry ends in the profile's

@@ -10,7 +10,7 @@ use Rattle.numbers.specs.Fractions.{over, _+ᶠ_, negᶠ, ltᶠ, roundTo}
 use Rattle.refusals.specs.Refusals.{numberOf}
 use Rattle.table.specs.Words.{bcd, badDigit, baseOf}
 use Rattle.table.specs.Settings.{mode2Of, badDigits, tuningOf, settingsOf}
-use Rattle.table.specs.Programs.{faultOf, pairAt, anyBelow, badDigitIn, highEndIn, programOf}
+use Rattle.table.specs.Programs.{faultOf, pairAt, anyBelow, badDigitIn, highEndIn, noProgram, programOf}
 use Rattle.table.specs.Reading.{modeAfter, remoteOf, readingOf}
 use Rattle.control.specs.Errors.{squaredOver, errorOf}
 use Rattle.control.specs.Terms.{exactP, exactI, exactD, exactTerms, termsOf}
@@ -19,9 +19,10 @@ use Rattle.numbers.specs.Distances.{apart}
 use Rattle.profile.specs.Moves.{commandOf, withHold, handedOver, joggedOf, toward, rampedTo, rampedBy, soakedBy, workedBy, advancedBy}
 use Rattle.profile.specs.Moves.{movedBy as profileMoved}
 use Rattle.profile.specs.Flags.{deviates, flagsOf}
+use Rattle.profile.specs.Samples.{sampledBy}
 use Rattle.alarms.specs.Status.{levelsOf, statusOf}
 use Rattle.carried.specs.Layout.{resetRecord, outOfRange, numbersOf, profileFrom, recordFrom, recordAt}
-use Rattle.engine.specs.Sensing.{pvOf, setpointOf, entering, runsOn, targetOf, profiledOf, flagsAfter, faultAfter, errorIn, sensedOf}
+use Rattle.engine.specs.Sensing.{pvOf, setpointOf, entering, runsOn, targetOf, profiledOf, faultAfter, errorIn, sensedOf}
 use Rattle.engine.specs.Driving.{heldOf, startOf, pastOf, positionInputs, velocityInputs, termsIn, movedPosition, movedVelocity, movedOf, drivenOf}
 use Rattle.engine.specs.Writing.{outputWord, biasWord, statusWord, writtenOf, nextOf, writtenTo}
 use Rattle.engine.specs.Steps.{stepOf}
@@ -81,5 +82,5 @@ mixed =
     ∷ []
 
 pub computed : rows resetDesk (begun (recordAt (resetDesk .numbers) 9)) mixed ≡ map expected mixed
-unfolding faultOf pairAt anyBelow badDigitIn highEndIn programOf commandOf withHold handedOver joggedOf toward rampedTo rampedBy soakedBy profileMoved workedBy advancedBy deviates flagsOf runsOn profiledOf flagsAfter faultAfter profileFrom clampBy halfUp halfAway rootWithin rootOf over _+ᶠ_ negᶠ ltᶠ roundTo bcd badDigit modeAfter mode2Of badDigits tuningOf settingsOf remoteOf readingOf squaredOver errorOf exactP exactI exactD exactTerms termsOf outsideOf positionOf velocityOf apart levelsOf statusOf resetRecord pvOf setpointOf entering heldOf startOf targetOf errorIn sensedOf pastOf positionInputs velocityInputs termsIn movedPosition movedVelocity movedOf drivenOf outputWord biasWord statusWord writtenOf nextOf stepOf writtenTo exactSum exactOutput exactBias begun countAfter movedBy plainAfter outOfRange numbersOf recordFrom flatten fittingOf noLoop resetDesk resetAnswer resetLeft storeAnswer storeLeft sampleDone sampleAnswer sampleLeft answerTo deskAfter fed expected rows set-up step writing mixed
+unfolding faultOf pairAt anyBelow badDigitIn highEndIn programOf commandOf withHold handedOver joggedOf toward rampedTo rampedBy soakedBy profileMoved workedBy advancedBy deviates flagsOf runsOn profiledOf sampledBy noProgram faultAfter profileFrom clampBy halfUp halfAway rootWithin rootOf over _+ᶠ_ negᶠ ltᶠ roundTo bcd badDigit modeAfter mode2Of badDigits tuningOf settingsOf remoteOf readingOf squaredOver errorOf exactP exactI exactD exactTerms termsOf outsideOf positionOf velocityOf apart levelsOf statusOf resetRecord pvOf setpointOf entering heldOf startOf targetOf errorIn sensedOf pastOf positionInputs velocityInputs termsIn movedPosition movedVelocity movedOf drivenOf outputWord biasWord statusWord writtenOf nextOf stepOf writtenTo exactSum exactOutput exactBias begun countAfter movedBy plainAfter outOfRange numbersOf recordFrom flatten fittingOf noLoop resetDesk resetAnswer resetLeft storeAnswer storeLeft sampleDone sampleAnswer sampleLeft answerTo deskAfter fed expected rows set-up step writing mixed
 computed = refl

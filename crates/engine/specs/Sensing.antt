@@ -11,9 +11,8 @@ use Rattle.table.specs.declared.reading.Reading.{Reading}
 use Rattle.table.specs.Modes.{isManual, isAutomatic, isCascade}
 use Rattle.control.specs.Errors.{errorOf}
 use Rattle.profile.specs.declared.state.Profile.{Profile}
-use Rattle.profile.specs.declared.state.Moved.{Moved}
-use Rattle.profile.specs.Moves.{advancedBy}
-use Rattle.profile.specs.Flags.{flagsOf}
+use Rattle.profile.specs.declared.sampling.Profiled.{Profiled}
+use Rattle.profile.specs.Samples.{sampledBy}
 use Rattle.carried.specs.declared.record.State.{State}
 use Rattle.engine.specs.declared.sensing.Sensed.{Sensed}
 pub mod Laws
@@ -40,15 +39,12 @@ runsOn program q = program .on && not (eqb (q .segment) 0)
 unfoldable pub targetOf : Reading → Bool → Bool → ℕ → ℕ
 targetOf r entry runs p = cond (entry && isAutomatic (r .mode) && not (r .settings .mode1 .bumpless) && not runs) p (setpointOf r)
 
--- G3: the profile and its setpoint after the sample; in Cascade they wait
-unfoldable pub profiledOf : Reading → Profile → ℕ → Moved
-profiledOf r q target =
-    cond (isCascade (r .mode)) (record { profile = q; setpoint = target })
-    (advancedBy (r .program) (r .settings .stored .flags) (r .settings .tuning .period) q target)
-
--- G10: word 27 after the sample, by profile and setpoint after it; in Cascade it stays
-unfoldable pub flagsAfter : Reading → Profile → ℕ → ℕ → ℕ
-flagsAfter r q s p = cond (isCascade (r .mode)) (r .settings .stored .flags) (flagsOf q (r .program .pair .deviation) s p)
+-- G3: the profile, its setpoint and word 27 after the sample; in Cascade they wait
+unfoldable pub profiledOf : Reading → Profile → ℕ → ℕ → Profiled
+profiledOf r q target p =
+    let flags = r .settings .stored .flags in
+    cond (isCascade (r .mode)) (record { profile = q; setpoint = target; flags = flags })
+    (sampledBy (r .program) flags (r .settings .tuning .period) q target p)
 
 -- G2: word 29 after the sample; in Cascade it stays
 unfoldable pub faultAfter : Reading → ℕ
@@ -64,13 +60,13 @@ sensedOf r state raw =
     let s = r .settings in
     let p = pvOf (s .mode1 .root) (s .mode2 .input .scale) raw in
     let entry = entering state (r .mode) (s .mode1 .velocity) in
-    let moved = profiledOf r (state .profile) (targetOf r entry (runsOn (r .program) (state .profile)) p) in
+    let after = profiledOf r (state .profile) (targetOf r entry (runsOn (r .program) (state .profile)) p) p in
     record {
       pv = p;
       entry = entry;
-      setpoint = moved .setpoint;
-      error = errorIn s (moved .setpoint) p;
-      flags = flagsAfter r (moved .profile) (moved .setpoint) p;
+      setpoint = after .setpoint;
+      error = errorIn s (after .setpoint) p;
+      flags = after .flags;
       fault = faultAfter r;
-      state = record { mode = r .mode; velocity = s .mode1 .velocity; profile = moved .profile };
+      state = record { mode = r .mode; velocity = s .mode1 .velocity; profile = after .profile };
     }

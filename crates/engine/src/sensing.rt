@@ -1,8 +1,8 @@
 // What a sample senses (A1 to A5): the PV, the mode, whether the sample is an entry, the setpoint with its
 // profile (G3), and the error.
 use carried::State;
-use profile::Moved;
 use profile::Profile;
+use profile::Profiled;
 use table::Mode;
 use table::Program;
 use table::Reading;
@@ -12,7 +12,7 @@ use table::is_cascade;
 use table::is_manual;
 ghost use mathlib.Core.Path.{_≡_};
 ghost use Prim.Native.Nat.{_≤_, _<_};
-ghost use Rattle.engine.specs.Sensing.{pvOf, setpointOf, entering, runsOn, targetOf, profiledOf, flagsAfter, faultAfter, errorIn, sensedOf};
+ghost use Rattle.engine.specs.Sensing.{pvOf, setpointOf, entering, runsOn, targetOf, profiledOf, faultAfter, errorIn, sensedOf};
 ghost use Rattle.profile.specs.Moves.Laws.{Within};
 
 // The PV, the setpoint and the error; whether the sample is an entry; words 27 and 29; and the loop's state
@@ -81,41 +81,30 @@ fn target_of(reading: Reading, entry: bool, runs: bool, pv: u16) -> u16
     }
 }
 
-// G3: the profile and its setpoint after the sample; in Cascade they wait.
-fn profiled(reading: Reading, p: Profile, setpoint: u16) -> Moved
-    requires { ⌜ Within p ⌝ }
-    ensures { λ r. ⌜ r ≡ profiledOf reading p setpoint ⌝ }
+// G3: the profile, its setpoint and word 27 after the sample; in Cascade they wait.
+fn profiled(reading: Reading, p: Profile, setpoint: u16, pv: u16) -> Profiled
+    requires { ⌜ Within p × (reading .program .pair .duration ≤ 9999) ⌝ }
+    ensures { λ r. ⌜ r ≡ profiledOf reading p setpoint pv ⌝ }
 {
     let mode = reading.mode;
     let program = reading.program;
+    let flags = reading.settings.stored.flags;
     let cascade = is_cascade(mode);
     if cascade {
-        Moved {
+        Profiled {
             profile: p,
             setpoint,
+            flags,
         }
     } else {
-        profile::advance(
+        profile::sample(
             program,
-            reading.settings.stored.flags,
+            flags,
             reading.settings.tuning.period,
             p,
             setpoint,
+            pv,
         )
-    }
-}
-
-// G10: word 27; in Cascade as it stood.
-fn flags_after(reading: Reading, p: Profile, setpoint: u16, pv: u16) -> u16
-    requires { ⌜ p .segment ≤ 16 ⌝ }
-    ensures { λ r. ⌜ r ≡ flagsAfter reading p setpoint pv ⌝ }
-{
-    let mode = reading.mode;
-    let cascade = is_cascade(mode);
-    if cascade {
-        reading.settings.stored.flags
-    } else {
-        profile::flags_word(p, reading.program.pair.deviation, setpoint, pv)
     }
 }
 
@@ -159,10 +148,10 @@ pub(crate) fn sensed_by(reading: Reading, state: State, raw: u16) -> Sensed
     let program = reading.program;
     let before = state.profile;
     let target = target_of(reading, entry, runs_on(program, before), pv);
-    let moved = profiled(reading, before, target);
-    let profile = moved.profile;
-    let setpoint = moved.setpoint;
-    let flags = flags_after(reading, profile, setpoint, pv);
+    let after = profiled(reading, before, target, pv);
+    let profile = after.profile;
+    let setpoint = after.setpoint;
+    let flags = after.flags;
     let fault = fault_after(reading);
     let error = error_in(s, setpoint, pv);
     Sensed {

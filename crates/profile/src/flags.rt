@@ -35,7 +35,7 @@ fn flag(on: bool, bit: u16) -> u16
 }
 
 // G10: word 27. `deviation` is that of the pair in which the profile stands.
-pub fn flags_word(p: Profile, deviation: u16, setpoint: u16, pv: u16) -> u16
+pub(crate) fn flags_word(p: Profile, deviation: u16, setpoint: u16, pv: u16) -> u16
     requires { ⌜ p .segment ≤ 16 ⌝ }
     ensures { λ r. ⌜ r ≡ flagsOf p deviation setpoint pv ⌝ }
 {

@@ -2,10 +2,10 @@
 mod flags;
 mod forecasting;
 mod moves;
+mod sampling;
 mod state;
 
-pub use flags::flags_word;
 pub use forecasting::forecast;
-pub use moves::advance;
-pub use state::Moved;
+pub use sampling::Profiled;
+pub use sampling::sample;
 pub use state::Profile;

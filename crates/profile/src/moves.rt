@@ -2,10 +2,9 @@
 use crate::state::Moved;
 use crate::state::Profile;
 use table::Pair;
-use table::Program;
 ghost use mathlib.Core.Path.{_≡_};
 ghost use Prim.Native.Nat.{_≤_};
-ghost use Rattle.profile.specs.Moves.{commandOf, endedOf, startedOf, withHold, completedOf, handedOver, joggedOf, toward, rampedTo, rampedBy, soakedBy, movedBy, workedBy, advancedBy};
+ghost use Rattle.profile.specs.Moves.{commandOf, endedOf, startedOf, withHold, completedOf, handedOver, joggedOf, toward, rampedTo, rampedBy, soakedBy, movedBy, workedBy};
 
 const SEGMENTS: u8 = 16;
 
@@ -22,7 +21,7 @@ pub enum Command {
 }
 
 // G5: of bits 0 to 3 of word 27 the lowest one that is on.
-fn command_of(flags: u16) -> Command
+pub(crate) fn command_of(flags: u16) -> Command
     ensures { λ r. ⌜ r ≡ commandOf flags ⌝ }
 {
     let start = flags / 1 % 2 == 1;
@@ -43,7 +42,7 @@ fn command_of(flags: u16) -> Command
 }
 
 // G4: no program.
-fn ended(p: Profile) -> Profile
+pub(crate) fn ended(p: Profile) -> Profile
     ensures { λ r. ⌜ r ≡ endedOf p ⌝ }
 {
     Profile {
@@ -212,7 +211,7 @@ fn moved(pair: Pair, period: u16, p: Profile, setpoint: u16) -> Moved
 }
 
 // G5, G6: the command, or what moves without one.
-fn worked(command: Command, pair: Pair, period: u16, p: Profile, setpoint: u16) -> Moved
+pub(crate) fn worked(command: Command, pair: Pair, period: u16, p: Profile, setpoint: u16) -> Moved
     requires { ⌜ (p .fraction ≤ 9999) × (p .time ≤ 6000000) ⌝ }
     ensures { λ r. ⌜ r ≡ workedBy command pair period p setpoint ⌝ }
 {
@@ -234,22 +233,5 @@ fn worked(command: Command, pair: Pair, period: u16, p: Profile, setpoint: u16) 
             setpoint,
         },
         Command::Nothing => moved(pair, period, p, setpoint),
-    }
-}
-
-// G4 to G9: a sample outside Cascade, with word 27 as it stood and the setpoint of A4.
-pub fn advance(program: Program, flags: u16, period: u16, p: Profile, setpoint: u16) -> Moved
-    requires { ⌜ (p .fraction ≤ 9999) × (p .time ≤ 6000000) ⌝ }
-    ensures { λ r. ⌜ r ≡ advancedBy program flags period p setpoint ⌝ }
-{
-    if program.on {
-        let pair = program.pair;
-        let command = command_of(flags);
-        worked(command, pair, period, p, setpoint)
-    } else {
-        Moved {
-            profile: ended(p),
-            setpoint,
-        }
     }
 }

@@ -10,7 +10,7 @@ use Rattle.text.specs.Text.{bytes, digitsWithin, decimalOf}
 use Rattle.reader.specs.File.{recordAt, positionsWithin, positionsFrom, recordsFrom}
 use Rattle.table.specs.Words.{bcd, badDigit}
 use Rattle.table.specs.Settings.{mode2Of, badDigits, tuningOf, settingsOf}
-use Rattle.table.specs.Programs.{faultOf, pairAt, anyBelow, badDigitIn, highEndIn, programOf}
+use Rattle.table.specs.Programs.{faultOf, pairAt, anyBelow, badDigitIn, highEndIn, noProgram, programOf}
 use Rattle.table.specs.Reading.{modeAfter, remoteOf, readingOf}
 use Rattle.control.specs.Errors.{squaredOver, errorOf}
 use Rattle.control.specs.Terms.{exactP, exactI, exactD, exactTerms, termsOf}
@@ -18,9 +18,10 @@ use Rattle.control.specs.Forms.{outsideOf, positionOf, velocityOf}
 use Rattle.numbers.specs.Distances.{apart}
 use Rattle.profile.specs.Moves.{commandOf, withHold, handedOver, joggedOf, toward, rampedTo, rampedBy, soakedBy, movedBy, workedBy, advancedBy}
 use Rattle.profile.specs.Flags.{deviates, flagsOf}
+use Rattle.profile.specs.Samples.{sampledBy}
 use Rattle.alarms.specs.Status.{levelsOf, statusOf}
 use Rattle.carried.specs.Layout.{resetRecord, outOfRange, numbersOf, profileFrom, recordFrom}
-use Rattle.engine.specs.Sensing.{pvOf, setpointOf, entering, runsOn, targetOf, profiledOf, flagsAfter, faultAfter, errorIn, sensedOf}
+use Rattle.engine.specs.Sensing.{pvOf, setpointOf, entering, runsOn, targetOf, profiledOf, faultAfter, errorIn, sensedOf}
 use Rattle.engine.specs.Driving.{heldOf, startOf, pastOf, positionInputs, velocityInputs, termsIn, movedPosition, movedVelocity, movedOf, drivenOf}
 use Rattle.engine.specs.Writing.{outputWord, biasWord, statusWord, writtenOf, nextOf, writtenTo}
 use Rattle.engine.specs.Steps.{stepOf}
@@ -50,5 +51,5 @@ text =
     ++ bytes "10 refused 4\n10 records, 1 refused\n"
 
 pub worked : printedOf file ≡ text
-unfolding faultOf pairAt anyBelow badDigitIn highEndIn programOf commandOf withHold handedOver joggedOf toward rampedTo rampedBy soakedBy movedBy workedBy advancedBy deviates flagsOf runsOn profiledOf flagsAfter faultAfter profileFrom clampBy halfUp halfAway rootWithin rootOf over negᶠ roundTo digitsWithin decimalOf recordAt positionsWithin positionsFrom recordsFrom bcd badDigit modeAfter mode2Of badDigits tuningOf settingsOf remoteOf readingOf squaredOver errorOf exactP exactI exactD exactTerms termsOf outsideOf positionOf velocityOf apart levelsOf statusOf resetRecord pvOf setpointOf entering heldOf startOf targetOf errorIn sensedOf pastOf positionInputs velocityInputs termsIn movedPosition movedVelocity movedOf drivenOf outputWord biasWord statusWord writtenOf nextOf stepOf writtenTo outOfRange numbersOf recordFrom flatten fittingOf noLoop resetDesk resetAnswer resetLeft storeAnswer storeLeft sampleDone sampleAnswer sampleLeft answerTo deskAfter lineText lastText linesOf printedOf file text
+unfolding faultOf pairAt anyBelow badDigitIn highEndIn programOf commandOf withHold handedOver joggedOf toward rampedTo rampedBy soakedBy movedBy workedBy advancedBy deviates flagsOf runsOn profiledOf sampledBy noProgram faultAfter profileFrom clampBy halfUp halfAway rootWithin rootOf over negᶠ roundTo digitsWithin decimalOf recordAt positionsWithin positionsFrom recordsFrom bcd badDigit modeAfter mode2Of badDigits tuningOf settingsOf remoteOf readingOf squaredOver errorOf exactP exactI exactD exactTerms termsOf outsideOf positionOf velocityOf apart levelsOf statusOf resetRecord pvOf setpointOf entering heldOf startOf targetOf errorIn sensedOf pastOf positionInputs velocityInputs termsIn movedPosition movedVelocity movedOf drivenOf outputWord biasWord statusWord writtenOf nextOf stepOf writtenTo outOfRange numbersOf recordFrom flatten fittingOf noLoop resetDesk resetAnswer resetLeft storeAnswer storeLeft sampleDone sampleAnswer sampleLeft answerTo deskAfter lineText lastText linesOf printedOf file text
 worked = refl

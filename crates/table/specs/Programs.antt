@@ -1,6 +1,6 @@
 -- A loop's ramp/soak program (G1, G2): the table that word 28 points to, and what a sample reads of it.
 use Prim.Native.Nat.{ℕ, zero, suc, _+_, _-_, _*_, _/_}
-use mathlib.Core.Bool.{Bool, true, false, cond, not, _&&_, _||_}
+use mathlib.Core.Bool.{Bool, true, false, cond, _||_}
 use mathlib.Core.List.{List}
 use lib.ListN.{getD}
 use lib.Dec.{ltb, eqb}
@@ -39,23 +39,29 @@ badDigitIn table = anyBelow 8 (λ i. badDigit (getD table (4 * i + 1) 0) || badD
 unfoldable pub highEndIn : ℕ → List ℕ → Bool
 highEndIn scale table = anyBelow 8 (λ i. ltb scale (getD table (4 * i + 0) 0))
 
--- G1, G2: there is a program with bit 11 on and a good address: its table is tested, and the pair of the carried segment read. With bit 11 off word 29
--- is 0
+-- G2: no program: bit 11 is off, or the address not good
+unfoldable pub noProgram : ℕ → Program
+noProgram fault = record {
+  on = false;
+  fault = fault;
+  baddigit = false;
+  highend = false;
+  pair = record { end = 0; slope = 0; duration = 0; deviation = 0 };
+}
+
+-- G1, G2: with bit 11 on and a good address the table is tested, and the pair of the carried segment read
 unfoldable pub programOf : List ℕ → Bool → ℕ → ℕ → ℕ → Program
 programOf words bit at scale segment =
     let table = blockAt words at in
-    cond (bit && eqb (faultOf at) 0)
+    let fault = faultOf at in
+    cond bit
+    (cond (eqb fault 0)
     (record {
       on = true;
-      fault = 0;
+      fault = fault;
       baddigit = badDigitIn table;
       highend = highEndIn scale table;
       pair = pairAt table (pairNumber segment);
     })
-    (record {
-      on = false;
-      fault = cond bit (faultOf at) 0;
-      baddigit = false;
-      highend = false;
-      pair = record { end = 0; slope = 0; duration = 0; deviation = 0 };
-    })
+    (noProgram fault))
+    (noProgram 0)

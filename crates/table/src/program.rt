@@ -14,7 +14,7 @@ ghost use mathlib.Core.Path.{_≡_};
 ghost use Prim.Native.Nat.{_+_, _≤_, _<_};
 ghost use lib.ListN.{length};
 ghost use Rattle.table.specs.Words.{blockAt};
-ghost use Rattle.table.specs.Programs.{faultOf, pairAt, pairNumber, badDigitIn, highEndIn, programOf};
+ghost use Rattle.table.specs.Programs.{faultOf, pairAt, pairNumber, badDigitIn, highEndIn, noProgram, programOf};
 
 // A ramp and the soak behind it: segments 2i + 1 and 2i + 2.
 pub struct Pair {
@@ -109,33 +109,44 @@ fn high_end_in(table: &[u16], scale: u16) -> bool
     found
 }
 
+// Bit 11 is off, or the address not good.
+fn no_program(fault: u16) -> Program
+    ensures { λ r. ⌜ r ≡ noProgram fault ⌝ }
+{
+    Program {
+        on: false,
+        fault,
+        baddigit: false,
+        highend: false,
+        pair: Pair {
+            end: 0,
+            slope: 0,
+            duration: 0,
+            deviation: 0,
+        },
+    }
+}
+
 // The program of a loop: bit 11, word 28, the full scale, and the carried segment.
 pub(crate) fn read_program(words: &[u16], bit: bool, at: u16, scale: u16, segment: u8) -> Program
     requires { ⌜ (1024 ≤ length (now words)) × (segment ≤ 16) ⌝ }
     ensures { λ r. ⌜ r ≡ programOf (now (words .entry)) bit at scale segment ⌝ }
 {
-    let fault = fault_of(at);
-    if bit & (fault == 0) {
-        let table = table_at(words, at as usize);
-        Program {
-            on: true,
-            fault: 0,
-            baddigit: bad_digit_in(table),
-            highend: high_end_in(table, scale),
-            pair: read_pair(table, pair_number(segment)),
+    if bit {
+        let fault = fault_of(at);
+        if fault == 0 {
+            let table = table_at(words, at as usize);
+            Program {
+                on: true,
+                fault,
+                baddigit: bad_digit_in(table),
+                highend: high_end_in(table, scale),
+                pair: read_pair(table, pair_number(segment)),
+            }
+        } else {
+            no_program(fault)
         }
     } else {
-        Program {
-            on: false,
-            fault: if bit { fault } else { 0 },
-            baddigit: false,
-            highend: false,
-            pair: Pair {
-                end: 0,
-                slope: 0,
-                duration: 0,
-                deviation: 0,
-            },
-        }
+        no_program(0)
     }
 }

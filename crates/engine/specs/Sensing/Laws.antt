@@ -8,8 +8,9 @@ use Rattle.numbers.specs.Roots.Laws.{root-exact, root-high}
 use Rattle.table.specs.declared.reading.Reading.{Reading}
 use Rattle.table.specs.Modes.{isAutomatic, isCascade}
 use Rattle.profile.specs.declared.state.Profile.{Profile}
-use Rattle.profile.specs.declared.state.Moved.{Moved}
+use Rattle.profile.specs.declared.sampling.Profiled.{Profiled}
 use Rattle.profile.specs.Moves.Laws.{Within, advanced-within, advanced-scale}
+use Rattle.profile.specs.Samples.{sampledBy}
 use Rattle.engine.specs.Sensing.{pvOf, setpointOf, targetOf, profiledOf}
 
 pub pv-high : (root : Bool) {scale raw : ℕ} → scale ≤ 65535 → raw ≤ scale → pvOf root scale raw ≤ scale
@@ -26,15 +27,15 @@ target-high r entry runs {p} {scale} h l =
     by-test (λ n. n ≤ scale) (entry && isAutomatic (r .mode) && not (r .settings .mode1 .bumpless) && not runs) (λ _. h) (λ _. l)
 
 -- the profile stays in its ranges, and its setpoint within the scale, in Cascade too
-module _ (r : Reading) {q : Profile} (w : Within q) (target : ℕ) where
-  pub profiled-within : r .program .pair .duration ≤ 9999 → Within (profiledOf r q target .profile)
-  unfolding profiledOf
+module _ (r : Reading) {q : Profile} (w : Within q) (target p : ℕ) where
+  pub profiled-within : r .program .pair .duration ≤ 9999 → Within (profiledOf r q target p .profile)
+  unfolding profiledOf sampledBy
   profiled-within d =
-      by-test (λ (m : Moved). Within (m .profile)) (isCascade (r .mode)) (λ _. w)
+      by-test (λ (m : Profiled). Within (m .profile)) (isCascade (r .mode)) (λ _. w)
       (λ _. advanced-within w (r .program) d (r .settings .stored .flags) (r .settings .tuning .period) target)
 
-  pub profiled-scale : {scale : ℕ} → target ≤ scale → r .program .pair .end ≤ scale → profiledOf r q target .setpoint ≤ scale
-  unfolding profiledOf
+  pub profiled-scale : {scale : ℕ} → target ≤ scale → r .program .pair .end ≤ scale → profiledOf r q target p .setpoint ≤ scale
+  unfolding profiledOf sampledBy
   profiled-scale {scale} h e =
-      by-test (λ (m : Moved). m .setpoint ≤ scale) (isCascade (r .mode)) (λ _. h)
+      by-test (λ (m : Profiled). m .setpoint ≤ scale) (isCascade (r .mode)) (λ _. h)
       (λ _. advanced-scale (r .program) q target scale (w .fraction) h e (r .settings .stored .flags) (r .settings .tuning .period))

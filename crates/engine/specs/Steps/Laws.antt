@@ -72,7 +72,7 @@ drivable {r} {c} {raw} u g =
     let own : setpointOf r ≤ scale = omega (arith, same, u .setpoint) in
     let runs = runsOn (r .program) (c .state .profile) in
     let end : r .program .pair .end ≤ scale = omega (arith, same, u .program .end) in
-    let target = profiled-scale r (g .profile) (targetOf r (x .entry) runs (x .pv)) (target-high r (x .entry) runs pv own) end in
+    let target = profiled-scale r (g .profile) (targetOf r (x .entry) runs (x .pv)) (x .pv) (target-high r (x .entry) runs pv own) end in
     let error = error-high (s .mode1 .squared) (s .mode1 .deadband) (s .deadband) (u .some) target pv in
     let held : heldOf s ≤ 65535 = omega (arith, held-high s (u .limits), u .high, u .scale) in
     let kept : Remembered (c .past) = record { last = g .last; prior = g .prior; error = g .error } in
@@ -103,5 +103,5 @@ stepped-ranged {r} {c} {raw} u g =
       error = m .error;
       last = m .pv;
       prior = by-test (λ n. n ≤ 65535) (c .sampled) (λ _. g .last) (λ _. m .pv);
-      profile = profiled-within r (g .profile) _ (u .program .duration);
+      profile = profiled-within r (g .profile) _ _ (u .program .duration);
     }

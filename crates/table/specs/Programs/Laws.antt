@@ -2,15 +2,16 @@
 use Prim.Native.Nat.{ℕ, zero, suc, _+_, _-_, _*_, _/_, _≤_, _<_}
 use native.Mathlib.Omega.{arith}
 use mathlib.Core.Path.{_≡_, refl}
-use mathlib.Core.Bool.{Bool, true, false, cond, _&&_, _||_}
+use mathlib.Core.Bool.{Bool, true, false, cond, _||_}
 use mathlib.Core.List.{List}
 use lib.ListN.{getD}
-use lib.Dec.{ltb, eqb}
+use lib.Dec.{ltb, eqb, eqb→eq}
 use borrow.Author.Tests.{ltb-false, eqb-true, eqb-false}
+use Rattle.numbers.specs.Limits.Laws.{by-test}
 use Rattle.table.specs.declared.program.Program.{Program}
 use Rattle.table.specs.Words.{badDigit, blockAt}
 use Rattle.table.specs.Words.Laws.{or-false, bcd-high}
-use Rattle.table.specs.Programs.{faultOf, pairAt, pairNumber, anyBelow, badDigitIn, highEndIn, programOf}
+use Rattle.table.specs.Programs.{faultOf, pairAt, pairNumber, anyBelow, badDigitIn, highEndIn, noProgram, programOf}
 
 -- ---- the tests of a table
 
@@ -56,33 +57,44 @@ pub record Fair (p : Program) (scale : ℕ) : Type 0 where
   pub duration : p .pair .duration ≤ 9999
   pub end : p .pair .end ≤ scale
 
-module _ (words : List ℕ) (bit : Bool) (at scale segment : ℕ) where
-  pub program-on : programOf words bit at scale segment .on ≡ (bit && eqb (faultOf at) 0)
+module _ (words : List ℕ) (at scale segment : ℕ) where
+  -- what holds where there is no program, and of the one that there is, holds of what is read
+  by-program : (P : Program → Type 0) (bit : Bool) → ((fault : ℕ) → P (noProgram fault))
+      → (bit ≡ true → faultOf at ≡ 0 → P (record {
+        on = true;
+        fault = faultOf at;
+        baddigit = badDigitIn (blockAt words at);
+        highend = highEndIn scale (blockAt words at);
+        pair = pairAt (blockAt words at) (pairNumber segment);
+      })) → P (programOf words bit at scale segment)
   unfolding programOf
-  program-on = by (bit && eqb (faultOf at) 0) refl
-    where
-      by : (b : Bool) → (bit && eqb (faultOf at) 0) ≡ b → programOf words bit at scale segment .on ≡ (bit && eqb (faultOf at) 0)
-      by true e = rw e
-      by false e = rw e
+  by-program P true none some = by-test P (eqb (faultOf at) 0) (λ t. some refl (eqb→eq (faultOf at) 0 t)) (λ _. none (faultOf at))
+  by-program P false none some = none 0
 
-  pub program-fair : segment ≤ 16 → programOf words bit at scale segment .baddigit ≡ false → programOf words bit at scale segment .highend ≡ false
+  -- where there is one, bit 11 is on and the address good
+  pub program-on : (bit : Bool) → programOf words bit at scale segment .on ≡ true → (bit ≡ true) × (faultOf at ≡ 0)
+  unfolding noProgram
+  program-on bit =
+      by-program (λ (p : Program). p .on ≡ true → (bit ≡ true) × (faultOf at ≡ 0)) bit (λ fault e. let z : false ≡ true = e in (cc, cc)) (λ b f _. (b, f))
+
+  pub program-fair : (bit : Bool) → segment ≤ 16 → programOf words bit at scale segment .baddigit ≡ false → programOf words bit at scale segment .highend ≡ false
       → Fair (programOf words bit at scale segment) scale
-  unfolding programOf
-  program-fair h d e = by (bit && eqb (faultOf at) 0) refl
-    where
-      by : (b : Bool) → (bit && eqb (faultOf at) 0) ≡ b → Fair (programOf words bit at scale segment) scale
-      by true f =
-          let few : pairNumber segment < 8 = omega arith in
-          let times = pair-times (blockAt words at) (pairNumber segment) few (rw f at d) in
-          rw f (record { slope = times .0; duration = times .1; end = pair-end scale (blockAt words at) (pairNumber segment) few (rw f at e) })
-      by false f = rw f (record { slope = omega arith; duration = omega arith; end = omega arith })
+  unfolding noProgram
+  program-fair bit h =
+      let few : pairNumber segment < 8 = omega arith in
+      by-program (λ (p : Program). p .baddigit ≡ false → p .highend ≡ false → Fair p scale) bit
+      (λ fault _ _. record { slope = omega arith; duration = omega arith; end = omega arith })
+      (λ _ _ d e. let times = pair-times (blockAt words at) (pairNumber segment) few d in
+      record { slope = times .0; duration = times .1; end = pair-end scale (blockAt words at) (pairNumber segment) few e })
 
   -- the table, where there is a program: any two memories that agree on it have the same
-  pub program-local : (words′ : List ℕ) → (programOf words bit at scale segment .on ≡ true → blockAt words at ≡ blockAt words′ at)
+  pub program-local : (words′ : List ℕ) (bit : Bool) → (programOf words bit at scale segment .on ≡ true → blockAt words at ≡ blockAt words′ at)
       → programOf words bit at scale segment ≡ programOf words′ bit at scale segment
   unfolding programOf
-  program-local words′ same = by (bit && eqb (faultOf at) 0) refl
+  program-local words′ false same = refl
+  program-local words′ true same = go (eqb (faultOf at) 0) refl same
     where
-      by : (b : Bool) → (bit && eqb (faultOf at) 0) ≡ b → programOf words bit at scale segment ≡ programOf words′ bit at scale segment
-      by true f = rw (f, same (rw f refl))
-      by false f = rw f
+      go : (b : Bool) → eqb (faultOf at) 0 ≡ b → (programOf words true at scale segment .on ≡ true → blockAt words at ≡ blockAt words′ at)
+          → programOf words true at scale segment ≡ programOf words′ true at scale segment
+      go true f h = rw (f, h (rw f refl))
+      go false f h = rw f

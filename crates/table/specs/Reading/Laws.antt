@@ -3,17 +3,15 @@ use Prim.Native.Nat.{ℕ, _+_, _≤_}
 use mathlib.Core.Path.{_≡_, refl, sym, ap, _∙_}
 use mathlib.Core.Bool.{Bool, true, false, cond}
 use mathlib.Core.List.{List}
-use lib.Dec.{lit<, eqb}
-use borrow.Author.Tests.{eqb-true}
+use lib.Dec.{lit<}
 use lib.ListN.{getD}
 use Rattle.table.specs.declared.mode.Mode.{Mode}
 use Rattle.table.specs.declared.reading.Reading.{Reading}
 use Rattle.table.specs.Words.{baseOf, blockAt}
-use Rattle.table.specs.Words.Laws.{and-true, block-at, scale-low, scale-high}
+use Rattle.table.specs.Words.Laws.{block-at, scale-low, scale-high}
 use Rattle.table.specs.Modes.{isCascade}
 use Rattle.table.specs.Settings.{mode2Of, settingsOf}
 use Rattle.table.specs.Settings.Laws.{Decimals, tuning-high}
-use Rattle.table.specs.Programs.{faultOf}
 use Rattle.table.specs.Programs.Laws.{Fair, good-address, program-on, program-local, program-fair}
 use Rattle.table.specs.Reading.{remoteOf, tableOf, readingOf}
 
@@ -41,7 +39,7 @@ pub reading-local : (ws ws′ : List ℕ) (k k′ : ℕ) (former : Mode) (segmen
 unfolding readingOf remoteOf
 reading-local ws ws′ k k′ former segment block pointed table =
     let same : tableOf ws′ k′ ≡ tableOf ws k = sym (table-word ws′ k′) ∙ ap (λ (w : List ℕ). getD w 28 0) (sym block) ∙ table-word ws k in
-    rw (← block, same) (rw (chosen _ pointed, program-local ws _ _ _ segment ws′ table) refl)
+    rw (← block, same) (rw (chosen _ pointed, program-local ws _ _ segment ws′ _ table) refl)
 
 -- ---- what is known of every reading
 
@@ -78,12 +76,10 @@ module _ (ws : List ℕ) (k : ℕ) (former : Mode) (segment : ℕ) where
   pub table-inside : readingOf ws k former segment .program .on ≡ true → tableOf ws k ≤ 992
   unfolding readingOf
   table-inside e =
-      let at = tableOf ws k in
-      let bit = settingsOf (blockAt ws (baseOf k)) .mode1 .profile in
-      good-address at (eqb-true (faultOf at) 0 (and-true bit (eqb (faultOf at) 0) (sym (program-on ws _ at _ segment) ∙ e) .1)) .1
+      good-address (tableOf ws k) (program-on ws (tableOf ws k) _ segment _ e .1) .1
 
   -- a table that has passed its tests has a fair pair
   pub fair : segment ≤ 16 → readingOf ws k former segment .program .baddigit ≡ false → readingOf ws k former segment .program .highend ≡ false
       → Fair (readingOf ws k former segment .program) (readingOf ws k former segment .settings .mode2 .input .scale)
   unfolding readingOf
-  fair h d e = program-fair ws _ _ _ segment h d e
+  fair h d e = program-fair ws _ _ segment _ h d e

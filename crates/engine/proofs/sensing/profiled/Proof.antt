@@ -8,8 +8,8 @@ use Rattle.engine.proofs.sensing.profiled.Tie as tie
 is-cascade-requires : tie.Need-is-cascade-requires
 is-cascade-requires c κs = search needs
 
-advance-requires : tie.Need-advance-requires
-advance-requires c κs = search needs
+sample-requires : tie.Need-sample-requires
+sample-requires c κs = search needs
 
 returns : tie.Need-returns
 unfolding profiledOf
@@ -17,7 +17,7 @@ returns c = rw (sym (c .before .is-cascade .ensures) ∙ c .if1 .taken)
 
 returns-2 : tie.Need-returns-2
 unfolding profiledOf
-returns-2 c = rw (sym (c .before .before .is-cascade .ensures) ∙ c .before .if1 .left) (c .advance .ensures)
+returns-2 c = rw (sym (c .before .before .is-cascade .ensures) ∙ c .before .if1 .left) (c .sample .ensures)
 
 pub profiled-spec : {M : Type 1} → statement M
-profiled-spec = tie.close (tie.spec is-cascade-requires advance-requires returns returns-2)
+profiled-spec = tie.close (tie.spec is-cascade-requires sample-requires returns returns-2)

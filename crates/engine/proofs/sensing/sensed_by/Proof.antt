@@ -2,7 +2,6 @@
 use borrow.Author.Needs.{needs}
 use Rattle.numbers.proofs.Machine.{got}
 use Rattle.engine.specs.Sensing.{sensedOf}
-use Rattle.engine.specs.Sensing.Laws.{profiled-within}
 use Rattle.engine.proofs.sensing.sensed_by.Statement.{statement}
 use Rattle.engine.proofs.sensing.sensed_by.Tie as tie
 
@@ -21,11 +20,6 @@ target-of-requires c κs = search needs
 profiled-requires : tie.Need-profiled-requires
 profiled-requires c κs = search needs
 
-flags-after-requires : tie.Need-flags-after-requires
-flags-after-requires c κs =
-    let s = c .before .before .before .before .before .before .before .before .before in
-    rw (c .before .profiled .ensures) (profiled-within (s .args .reading) (s .pre .1) _ (s .pre .2) .segment)
-
 fault-after-requires : tie.Need-fault-after-requires
 fault-after-requires c κs = search needs
 
@@ -36,14 +30,13 @@ returns : tie.Need-returns
 unfolding sensedOf
 returns c =
     let e = c .error-in in
-    let p = c .before .before .before .before in
+    let p = c .before .before .before in
     let t = p .before in
     let n = t .before .before .before .before in
     simp (got (e .result) (e .ok))
     (simp (
       e .ensures,
       c .before .fault-after .ensures,
-      c .before .before .flags-after .ensures,
       p .profiled .ensures,
       t .target-of .ensures,
       t .before .runs-on .ensures,
@@ -60,7 +53,6 @@ sensed-by-spec =
     runs-on-requires
     target-of-requires
     profiled-requires
-    flags-after-requires
     fault-after-requires
     error-in-requires
     returns)

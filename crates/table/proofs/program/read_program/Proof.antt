@@ -1,14 +1,12 @@
 -- `table::read_program` meets its contract: the tests pick the definition's case, and what is handed out is the table.
 use borrow.Author.Needs.{needs}
+use Prim.Native.Nat.{_+_, _≤_}
 use native.Mathlib.Omega.{arith}
-use Prim.Native.Nat.{ℕ, _≤_}
-use mathlib.Core.Path.{_≡_, sym, ap, _∙_}
-use mathlib.Core.Bool.{Bool, true, false, _&&_}
-use lib.Dec.{eqb}
-use borrow.Author.Tests.{eqb-true}
-use denote.Ref.{now}
+use mathlib.Core.Path.{_≡_, sym, _∙_}
 use lib.ListN.{length}
-use Rattle.table.specs.Words.Laws.{block-length, and-true}
+use denote.Ref.{now}
+use borrow.Author.Tests.{eq-eqb, ne-eqb}
+use Rattle.table.specs.Words.Laws.{block-length}
 use Rattle.table.specs.Programs.{faultOf, programOf}
 use Rattle.table.specs.Programs.Laws.{good-address}
 use Rattle.table.proofs.program.read_program.Statement.{statement}
@@ -17,31 +15,22 @@ use Rattle.table.proofs.program.read_program.Tie as tie
 fault-of-requires : tie.Need-fault-of-requires
 fault-of-requires c κs = search needs
 
-cast-table-at : tie.Need-cast-table-at
-cast-table-at c = search needs
+-- a good address
+module _ (c : tie.Then2) where
+  abbrev start : tie.Start
+  start = c .before .before .before .before
 
--- the test, in the definition's words
-module _ (c : tie.After-fault-of) where
-  abbrev bit : Bool
-  bit = c .before .before .args .bit
+  good : faultOf (start .args .at) ≡ 0
+  good = sym (c .before .fault-of .ensures) ∙ c .if2 .taken
 
-  abbrev at : ℕ
-  at = c .before .before .args .at
-
-  tested : {b : Bool} → (bit && eqb (c .fault-of .result) 0) ≡ b → (bit && eqb (faultOf at) 0) ≡ b
-  tested e = ap (λ (n : ℕ). bit && eqb n 0) (sym (c .fault-of .ensures)) ∙ e
-
-  inside : (bit && eqb (c .fault-of .result) 0) ≡ true → (512 ≤ at) × (at ≤ 992)
-  inside e = good-address at (eqb-true (faultOf at) 0 (and-true bit (eqb (faultOf at) 0) (tested e) .1))
+  inside : start .args .at + 32 ≤ length (now (start .args .words))
+  inside = omega (arith, good-address (start .args .at) good, start .pre)
 
 table-at-requires : tie.Need-table-at-requires
-table-at-requires c κs = let good = inside (c .before) (c .if1 .taken) in omega arith
+table-at-requires c κs = inside c
 
 size : (c : tie.After-table-at) → length (now (c .table-at .result)) ≡ 32
-size c =
-    let f = c .before .before in
-    let good = inside f (c .before .if1 .taken) in
-    rw (c .table-at .ensures) (block-length (now (f .before .before .args .words)) (at f) (omega arith))
+size c = rw (c .table-at .ensures) (block-length _ _ (inside (c .before)))
 
 bad-digit-in-requires : tie.Need-bad-digit-in-requires
 bad-digit-in-requires c κs = size c
@@ -55,12 +44,21 @@ pair-number-requires c κs = search needs
 read-pair-requires : tie.Need-read-pair-requires
 read-pair-requires c κs = (size (c .before .before .before), omega arith)
 
+no-program-requires : tie.Need-no-program-requires
+no-program-requires c κs = search needs
+
+no-program-requires-2 : tie.Need-no-program-requires-2
+no-program-requires-2 c κs = search needs
+
 returns : tie.Need-returns
 unfolding programOf
 returns c =
     let t = c .before .before .before .before in
+    let g = t .before in
     simp (
-      tested (t .before .before) (t .before .if1 .taken),
+      g .before .before .if1 .taken,
+      g .before .fault-of .ensures,
+      eq-eqb _ _ (good g),
       c .read-pair .ensures,
       c .before .pair-number .ensures,
       c .before .before .high-end-in .ensures,
@@ -70,23 +68,27 @@ returns c =
 
 returns-2 : tie.Need-returns-2
 unfolding programOf
-returns-2 c = rw (tested (c .before .before) (c .before .if1 .left)) (simp (c .if2 .taken, c .before .before .fault-of .ensures))
+returns-2 c =
+    let e = c .before in
+    let f = e .before in
+    rw (f .before .if1 .taken, c .no-program .ensures, sym (f .fault-of .ensures), ne-eqb _ _ (e .if2 .left))
 
 returns-3 : tie.Need-returns-3
 unfolding programOf
-returns-3 c = simp (c .if2 .left)
+returns-3 c = rw (c .before .if1 .left) (c .no-program2 .ensures)
 
 pub read-program-spec : {M : Type 1} → statement M
 read-program-spec =
     tie.close
     (tie.spec
     fault-of-requires
-    cast-table-at
     table-at-requires
     bad-digit-in-requires
     high-end-in-requires
     pair-number-requires
     read-pair-requires
+    no-program-requires
+    no-program-requires-2
     returns
     returns-2
     returns-3)
