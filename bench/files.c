@@ -35,7 +35,7 @@ static unsigned bits(const char *which, unsigned odds) {
     return word;
 }
 
-/* mode 1 with one request; bits 9 and 11 are refused, so they stay 0 */
+/* mode 1 with one request; bit 9 is refused, and bit 11 is for samples.c, which runs profiles: both stay 0 */
 static unsigned mode1(void) {
     unsigned word = 1u << (any(4) ? 1 + any(2) : 0) | bits("efghikmnop", 4);
     return word & 32 ? word : word | bits("d", 3);

@@ -9,7 +9,7 @@ use Rattle.profile.specs.declared.state.Profile.{Profile}
 abbrev pub isSoak : ℕ → Bool
 isSoak segment = not (eqb segment 0) && eqb (segment % 2) 0
 
--- G10: |s − p| is above a deviation that is not 0
+-- G10: the PV is further from the setpoint than a deviation that is not 0
 unfoldable pub deviates : ℕ → ℕ → ℕ → Bool
 deviates deviation s p = not (eqb deviation 0) && ltb deviation (apart s p)
 

@@ -147,12 +147,6 @@ pub answer-ranged : (d : Desk) (k raw : ℕ) → fittingOf d ≡ true → 1 ≤ 
 unfolding sampleAnswer
 answer-ranged d k raw fit above below = rw (fit, there-loop k above below)
 
--- and past these the reading
-pub answer-judged : (d : Desk) (k raw : ℕ) → fittingOf d ≡ true → noLoop k ≡ false → outOfRange (numbersAt (d .numbers) (slotOf k)) ≡ false
-    → sampleAnswer d k raw ≡ judgedAnswer d k raw
-unfolding sampleAnswer
-answer-judged d k raw fit loop range = rw (fit, loop, range)
-
 -- its own record is the step's, in range again; another loop's stays
 module _ (d : Desk) (k raw : ℕ) (s : Sampled d k raw) where
   pub own-numbers : numbersAt (sampleDone d k raw .numbers) (slotOf k) ≡ numbersOf (stepAt d k raw .carried)
