@@ -123,7 +123,7 @@ enum kexbardi_mode_1 {
     KEXBARDI_M1_SQUARED = 0x0080,          /* error squared */
     KEXBARDI_M1_DEADBAND = 0x0100,         /* error deadband of KEXBARDI_DEADBAND */
     KEXBARDI_M1_FREEZE = 0x0400,           /* the bias is frozen while the output would pass a limit */
-    KEXBARDI_M1_PROFILE = 0x0800,          /* the loop has a ramp/soak profile; off: none, and one that runs ends */
+    KEXBARDI_M1_PROFILE = 0x0800,          /* the loop has a ramp/soak profile; off: none, and outside Cascade one ends */
     KEXBARDI_M1_PV_ALARMS = 0x1000,        /* low-low, low, high, high-high */
     KEXBARDI_M1_DEVIATION_ALARMS = 0x2000, /* yellow, red */
     KEXBARDI_M1_RATE_ALARM = 0x4000        /* change of the PV */
@@ -164,9 +164,9 @@ enum kexbardi_status {
 
 /* ---- ramp/soak profiles (G1 to G12)
  *
- * A profile has sixteen segments: odd ones are ramps, which move the setpoint to an end value, even ones soaks, which
- * keep it for a duration. With KEXBARDI_M1_PROFILE on, each accepted sample of the loop moves a started profile on by
- * one period, in Manual too; in Cascade it waits (G3). */
+ * A profile has up to sixteen segments: odd ones are ramps, which move the setpoint to an end value, even ones soaks,
+ * which keep it for a duration. With KEXBARDI_M1_PROFILE on, each accepted sample of the loop moves a started profile on
+ * by one period, in Manual too; in Cascade it waits (G3). */
 
 /* The table (G1): KEXBARDI_TABLE_WORDS words from the address in KEXBARDI_PROFILE_TABLE on, two for each segment.
  * Loops may share a table, and no sample writes one. */
@@ -195,17 +195,17 @@ enum kexbardi_profile_flags {
     KEXBARDI_P_START = 0x0001,     /* segment 1, from the setpoint as it stands; begins a running profile anew, too */
     KEXBARDI_P_HOLD = 0x0002,      /* the profile stands still and counts no time */
     KEXBARDI_P_RESUME = 0x0004,    /* a held profile goes on */
-    KEXBARDI_P_JOG = 0x0008,       /* the next segment, from the setpoint as it stands; a hold stays */
+    KEXBARDI_P_JOG = 0x0008,       /* the next segment, setpoint and hold as they stand; in 16 the profile completes */
     KEXBARDI_P_COMPLETE = 0x0010,  /* the profile came to its end */
     KEXBARDI_P_DEVIATION = 0x0020, /* in a soak: PV and setpoint are farther apart than its KEXBARDI_DEVIATION */
     KEXBARDI_P_HELD = 0x0040       /* the profile is held */
 };
 
-/* The segment in a word 27: 1 to 16, or 0 where no profile runs. */
+/* The segment in a word 27: 1 to 16, or 0 for none; in Cascade as it last stood. */
 #define KEXBARDI_P_SEGMENT(word) ((uint16_t)(word) / 256)
 
-/* Profile fault, word 29 (G2): 0, or with KEXBARDI_M1_PROFILE on what is wrong with the table's address. There is no
- * profile then, and one that runs ends (G4). */
+/* Profile fault, word 29 (G2), as of the last accepted sample outside Cascade: 0, or with KEXBARDI_M1_PROFILE on what is
+ * wrong with the table's address. There is no profile then, and one that ran has ended (G4). */
 enum kexbardi_fault {
     KEXBARDI_FAULT_BELOW = 1, /* below KEXBARDI_TABLE_FIRST */
     KEXBARDI_FAULT_ABOVE = 2  /* above KEXBARDI_TABLE_LAST */
@@ -228,7 +228,7 @@ enum kexbardi_fault {
  *   last error    -65,535                   65,535
  *   velocity      0                         1                       the form of mode 1 then: 0 position, 1 velocity
  *   sampled       0                         1                       1 once a sample of the loop was accepted
- *   segment       0                         16                      of the profile; 0 where none runs
+ *   segment       0                         16                      of the profile; 0 for none
  *   hold          0                         1                       1 while the profile is held
  *   complete      0                         1                       1 once the profile came to its end
  *   fraction      0                         9,999                   of the setpoint, ten-thousandths of a count
@@ -270,7 +270,7 @@ enum kexbardi_refusal {
     KEXBARDI_ABOVE = 9     /* sample: the raw PV is above full scale */
 };
 
-/* ---- the functions (Q1 to Q10, G12) */
+/* ---- the functions (Q1 to Q11) */
 
 /* KEXBARDI_VERSION as the library was built with it. A program must not use a library whose major number is not
  * its header's: layouts and parameters differ. One that wants the very answers it was tested with compares the

@@ -61,7 +61,11 @@ fn soaks(table: &[u16], period: u16, at: u32, time: u32, left: usize) -> u64
     let pair = read_pair(table, (SEGMENTS - left) / 2);
     let whole = TENTH_OF_A_MINUTE * pair.duration as u32;
     let rest = if time < whole { whole - time } else { 0 };
-    count(rest, period as u32) + ramps(table, period, at, left - 1)
+    let own = count(rest, period as u32);
+    if left == 1 {
+        return own;
+    }
+    own + ramps(table, period, at, left - 1)
 }
 
 // G12: the samples that remain of a profile, with the one that completes it; 0 where none runs.

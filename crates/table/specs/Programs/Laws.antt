@@ -77,6 +77,18 @@ module _ (words : List ℕ) (at scale segment : ℕ) where
   program-on bit =
       by-program (λ (p : Program). p .on ≡ true → (bit ≡ true) × (faultOf at ≡ 0)) bit (λ fault e. let z : false ≡ true = e in (cc, cc)) (λ b f _. (b, f))
 
+  -- and its pair is the carried segment's; word 29 is what is wrong with the address, where bit 11 is on
+  pub program-pair : (bit : Bool) → programOf words bit at scale segment .on ≡ true
+      → programOf words bit at scale segment .pair ≡ pairAt (blockAt words at) (pairNumber segment)
+  unfolding noProgram
+  program-pair bit =
+      by-program (λ (p : Program). p .on ≡ true → p .pair ≡ pairAt (blockAt words at) (pairNumber segment)) bit (λ fault e. let z : false ≡ true = e in cc) (λ _ _ _. refl)
+
+  pub program-fault : (bit : Bool) → programOf words bit at scale segment .fault ≡ cond bit (faultOf at) 0
+  unfolding programOf noProgram
+  program-fault true = by-test (λ (p : Program). p .fault ≡ faultOf at) (eqb (faultOf at) 0) (λ _. refl) (λ _. refl)
+  program-fault false = refl
+
   pub program-fair : (bit : Bool) → segment ≤ 16 → programOf words bit at scale segment .baddigit ≡ false → programOf words bit at scale segment .highend ≡ false
       → Fair (programOf words bit at scale segment) scale
   unfolding noProgram

@@ -142,6 +142,18 @@ module _ (t : ℕ) where
   soaks-count-requires : soaks-lts.Need-count-requires soaks-calls soaks-at soaks.Post
   soaks-count-requires c κs = search needs
 
+  -- the last segment
+  soaks-returns-2 : soaks-lts.Need-returns-2 soaks-calls soaks-at soaks.Post
+  soaks-returns-2 c =
+      let r = c .before .before .before .before in
+      let a = r .before .before .before .args in
+      let rest = soaks-rest (c .before .before) in
+      let then = soak-then (r .read-pair .result) (a .table .now) (a .left) (a .period) (a .at) (a .time) (omega arith) (r .read-pair .ensures) in
+      let none = no-ramps (a .left - 1) (a .table .now) (a .period) (a .at) (omega (arith, c .if3 .taken)) in (
+        simp (then, rest, c .before .count .ensures, none, add-zero),
+        omega (arith, count-high _ _ (c .before .count .ensures)),
+      )
+
   soaks-sub-ramps : soaks-lts.Need-sub-ramps soaks-calls soaks-at soaks.Post
   soaks-sub-ramps c = search needs
 
@@ -149,16 +161,17 @@ module _ (t : ℕ) where
   soaks-ramps-requires c κs = omega arith
 
   soaks-add-result : soaks-lts.Need-add-result soaks-calls soaks-at soaks.Post
-  soaks-add-result c = omega (arith, count-high _ _ (c .before .count .ensures), soaks-rest (c .before .before))
+  soaks-add-result c = omega (arith, count-high _ _ (c .before .before .count .ensures), soaks-rest (c .before .before .before))
 
-  soaks-returns-2 : soaks-lts.Need-returns-2 soaks-calls soaks-at soaks.Post
-  soaks-returns-2 c =
-      let r = c .before .before .before .before in
+  soaks-returns-3 : soaks-lts.Need-returns-3 soaks-calls soaks-at soaks.Post
+  soaks-returns-3 c =
+      let n = c .before .before in
+      let r = n .before .before .before in
       let a = r .before .before .before .args in
-      let rest = soaks-rest (c .before .before) in
+      let rest = soaks-rest (n .before) in
       let then = soak-then (r .read-pair .result) (a .table .now) (a .left) (a .period) (a .at) (a .time) (omega arith) (r .read-pair .ensures) in (
-        simp (then, rest, c .before .count .ensures, c .ramps .ensures .0),
-        omega (arith, count-high _ _ (c .before .count .ensures)),
+        simp (then, rest, n .count .ensures, c .ramps .ensures .0),
+        omega (arith, count-high _ _ (n .count .ensures)),
       )
 
 pub +ramps+soaks-spec : {M : Type 1} → statement M
@@ -195,7 +208,8 @@ pub +ramps+soaks-spec : {M : Type 1} → statement M
     (soaks-mul-whole t)
     (soaks-sub-rest t)
     (soaks-count-requires t)
+    (soaks-returns-2 t)
     (soaks-sub-ramps t)
     (soaks-ramps-requires t)
     (soaks-add-result t)
-    (soaks-returns-2 t)
+    (soaks-returns-3 t)
