@@ -1,6 +1,6 @@
 -- A profile computed of the definitions (G4 to G10, G12), sample by sample, with hand-worked numbers: two ramps and two soaks at a period of 1.00 s,
 -- and every command.
-use Prim.Native.Nat.{ℕ, suc}
+use Prim.Native.Nat.{ℕ}
 use mathlib.Core.Path.{_≡_, refl}
 use mathlib.Core.Bool.{Bool, true, false, cond}
 use mathlib.Core.List.{List, [], _∷_}

@@ -9,7 +9,7 @@ use lib.ListN.{length, getD}
 use lib.Dec.{T, ltb, eqb, ltb→lt, lt→ltb}
 use lib.IntN.{ℤ, pos, _+ℤ_, _-ℤ_}
 use lib.Signed.{ltZ, _<ℤ_}
-use borrow.Author.Tests.{ltb-true, ltb-false, lt-ltb}
+use borrow.Author.Tests.{ltb-true, lt-ltb}
 use Rattle.numbers.specs.Whole.{linear, sub}
 use Rattle.table.specs.Words.{bit}
 use Rattle.alarms.specs.Status.{number, wordOf}

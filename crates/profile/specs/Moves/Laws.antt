@@ -1,13 +1,12 @@
 -- The laws of a profile's sample: its numbers stay in their ranges, the setpoint stays within the scale, and a soak that results stands in the pair
 -- that was read.
-use Prim.Native.Nat.{ℕ, _+_, _-_, _*_, _/_, _%_, _≤_, _<_}
+use Prim.Native.Nat.{ℕ, _+_, _-_, _*_, _%_, _≤_}
 use native.Mathlib.Omega.{arith}
 use mathlib.Core.Path.{_≡_, refl}
-use mathlib.Core.Bool.{Bool, true, false, not, _&&_, _||_}
+use mathlib.Core.Bool.{Bool, true, false, not, _||_}
 use lib.Dec.{ltb, leb, eqb, ltb→lt, nleb→lt}
 use borrow.Author.Tests.{eqb-true}
 use Rattle.numbers.specs.Limits.Laws.{by-test}
-use Rattle.table.specs.declared.program.Pair.{Pair}
 use Rattle.table.specs.declared.program.Program.{Program}
 use Rattle.table.specs.Words.Laws.{and-true}
 use Rattle.table.specs.Programs.{pairNumber}

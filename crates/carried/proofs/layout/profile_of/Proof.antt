@@ -1,12 +1,11 @@
 -- `carried::profile_of` meets its contract: what the machine reads back of each number is that number, and in range it fits its field.
-use Prim.Native.Nat.{ℕ, _≤_}
+use Prim.Native.Nat.{ℕ}
 use native.Mathlib.Omega.{arith}
 use mathlib.Core.Path.{_≡_, ap, _∙_}
 use mathlib.Core.List.{List}
 use lib.IntN.{ℤ, pos, natAbs}
 use lib.ListN.{getD}
 use mir.Syntax.{w64}
-use mir.Val.{toZ, ofZ}
 use mir.Facts.{toZ-ofZ}
 use Rattle.numbers.specs.Whole.{linear, abs}
 use Rattle.carried.specs.Layout.{profileFrom}

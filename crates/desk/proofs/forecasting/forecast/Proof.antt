@@ -1,6 +1,6 @@
 -- `desk::forecast` meets its contract, by what was found of the loop.
 use native.Mathlib.Omega.{arith}
-use mathlib.Core.Path.{_≡_, sym, ap, _∙_}
+use mathlib.Core.Path.{sym, ap, _∙_}
 use denote.Ref.{now}
 use Rattle.refusals.specs.declared.Answer.{Answer}
 use Rattle.carried.specs.Layout.{recordAt}

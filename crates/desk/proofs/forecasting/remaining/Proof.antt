@@ -1,9 +1,8 @@
 -- `desk::remaining` meets its contract: word 28 is read, and the table that it points to is handed on.
-use native.Mathlib.Omega.{arith}
 use mathlib.Core.Path.{_≡_, ap, _∙_}
 use Prim.Native.Nat.{ℕ, _+_}
 use denote.Ref.{now}
-use lib.ListN.{length, getD}
+use lib.ListN.{getD}
 use Rattle.table.specs.Reading.{tableOf}
 use Rattle.table.specs.Words.Laws.{block-length}
 use borrow.Author.Needs.{needs}

@@ -1,8 +1,8 @@
 -- `desk::sample` meets its contract, by what was found of the loop: a refusal, or its record, and then the reading decides.
 use native.Mathlib.Omega.{arith}
-use mathlib.Core.Path.{_≡_, sym, ap, _∙_}
+use mathlib.Core.Path.{sym, _∙_}
 use denote.Ref.{now}
-use Rattle.desk.specs.Desk.{lent, sampleAnswer, sampleLeft}
+use Rattle.desk.specs.Desk.{lent, sampleLeft}
 use Rattle.desk.specs.Desk.Laws.{There, promised, found-refused, found-loop}
 use borrow.Author.Needs.{needs}
 use Rattle.desk.proofs.sampling.sample.Statement.{statement}

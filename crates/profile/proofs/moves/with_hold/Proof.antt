@@ -1,5 +1,4 @@
 -- `profile::with_hold` meets its contract, by whether a profile runs.
-use borrow.Author.Needs.{needs}
 use borrow.Author.Tests.{eq-eqb, ne-eqb}
 use Rattle.profile.specs.Moves.{withHold}
 use Rattle.profile.proofs.moves.with_hold.Statement.{statement}

@@ -1,6 +1,6 @@
 -- `profile::sample` meets its contract: with a program it is moved, and stays in its ranges; without one word 27 is 0.
 use borrow.Author.Needs.{needs}
-use mathlib.Core.Path.{_≡_, sym, _∙_}
+use mathlib.Core.Path.{_≡_}
 use Rattle.profile.specs.Moves.{advancedBy}
 use Rattle.profile.specs.Moves.Laws.{advanced-within}
 use Rattle.profile.specs.Flags.{flagsOf}

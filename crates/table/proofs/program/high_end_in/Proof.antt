@@ -1,14 +1,10 @@
 -- `table::high_end_in` meets its contract: after i rounds the first i ends are tested.
-use borrow.Author.Needs.{needs}
 use Prim.Native.Nat.{ℕ, _+_, _-_, _*_, _≤_}
 use native.Mathlib.Omega.{arith}
 use native.Mathlib.Numerals.{add-one}
 use mathlib.Core.Path.{_≡_, refl}
-use mathlib.Core.Bool.{Bool}
-use mathlib.Core.List.{List}
 use lib.Dec.{ltb}
 use lib.ListN.{getD}
-use denote.Ref.{now}
 use Rattle.table.specs.Programs.{anyBelow, highEndIn}
 use Rattle.table.proofs.program.high_end_in.Statement.{statement}
 use Rattle.table.proofs.program.high_end_in.Tie as tie
