@@ -57,13 +57,15 @@ static int bcd(unsigned word) { return (int)(1000 * (word >> 12) + 100 * (word >
 /* N7: not 0 where a digit is above 9; its bit of 8 is on then, and that of 4 or of 2 */
 static unsigned wrong_digits(unsigned word) { return word & (word << 1 | word << 2) & 0x8888; }
 
+/* A1: the nearest whole number to the root of v, which is at most 65,535 x 65,535. r is the root rounded down; where v is above
+ * r x r + r the root is above r + 1/2, and it is never on it. */
 static uint32_t root(uint32_t v) {
     uint32_t r = 0;
     for (uint32_t step = 32768; step > 0; step /= 2) {
         uint32_t t = r + step;
         if (t * t <= v) r = t;
     }
-    return r;
+    return v - r * r > r ? r + 1 : r;
 }
 
 static unsigned full_scale(unsigned mode2) { return bit(mode2, 9) ? 65535 : bit(mode2, 1) ? 32767 : 4095; }

@@ -355,11 +355,15 @@ static void alarms(void) {
     begin_loop_a("root");
     store(0, 2 | 64);
     equals("sample", sample(1, 1000), 0);
-    equals("root of 1,000 in 12 bits", line[KEXBARDI_LINE_PV], 2023);
+    equals("root of 1,000 in 12 bits", line[KEXBARDI_LINE_PV], 2024); /* 4,095,000; 2,023 x 2,023 + 2,023 = 4,094,552 */
     equals("sample", sample(1, 4095), 0);
     equals("root of 4,095", line[KEXBARDI_LINE_PV], 4095);
+    equals("sample", sample(1, 4094), 0);
+    equals("root of 4,094", line[KEXBARDI_LINE_PV], 4094); /* 4,094 x 4,095 = 4,094 x 4,094 + 4,094, the last that goes down */
     equals("sample", sample(1, 1), 0);
-    equals("root of 1", line[KEXBARDI_LINE_PV], 63); /* 63 x 63 = 3,969, 64 x 64 = 4,096 */
+    equals("root of 1", line[KEXBARDI_LINE_PV], 64); /* 4,095; 63 x 63 + 63 = 4,032 */
+    equals("sample", sample(1, 2), 0);
+    equals("root of 2", line[KEXBARDI_LINE_PV], 90); /* 8,190 = 90 x 90 + 90 */
     equals("sample", sample(1, 0), 0);
     equals("root of 0", line[KEXBARDI_LINE_PV], 0);
 }

@@ -391,7 +391,7 @@ struct bit {
  * MANUAL         the output stays 2,000
  * CASCADE        the setpoint is word 600; not an entry: 2,000 + 468 + 46.8
  * VELOCITY       the form changes, an entry: the setpoint becomes the PV and the output stays
- * ROOT           PV 2,023, e = -523: 2,000 - 1,046 - 104.6
+ * ROOT           PV 2,024, e = 1,500 - 2,024 = -524: 2,000 - 1,048 - 104.8
  * SQUARED        e = 250,000/4,095 = 61: 2,000 + 122 + 12.2
  * DEADBAND       501, so e = 0
  * PV_ALARMS      PV 150 is below low: e = 1,350, 2,000 + 2,700 is above 4,095, at the limit
@@ -405,7 +405,7 @@ static const struct bit bits[] = {
     {"KEXBARDI_M1_BUMPLESS_II", KEXBARDI_M1_BUMPLESS_II, 0x0008, 1000, 1500, 1000, 3100, 0x0002},
     {"KEXBARDI_M1_REVERSE", KEXBARDI_M1_REVERSE, 0x0010, 1000, 1500, 1000, 900, 0x0002},
     {"KEXBARDI_M1_VELOCITY", KEXBARDI_M1_VELOCITY, 0x0020, 1000, 1000, 1000, 2000, 0x0002},
-    {"KEXBARDI_M1_ROOT", KEXBARDI_M1_ROOT, 0x0040, 1000, 1500, 2023, 849, 0x0002},
+    {"KEXBARDI_M1_ROOT", KEXBARDI_M1_ROOT, 0x0040, 1000, 1500, 2024, 847, 0x0002},
     {"KEXBARDI_M1_SQUARED", KEXBARDI_M1_SQUARED, 0x0080, 1000, 1500, 1000, 2134, 0x0002},
     {"KEXBARDI_M1_DEADBAND", KEXBARDI_M1_DEADBAND, 0x0100, 1000, 1500, 1000, 2000, 0x0002},
     {"KEXBARDI_M1_FREEZE", KEXBARDI_M1_FREEZE, 0x0400, 1000, 1500, 1000, 3100, 0x0002},

@@ -31,16 +31,16 @@ static size_t size;
 
 /* What an accepted sample can exercise, counted where it makes a difference to the result. */
 enum feature {
-    MANUAL, AUTOMATIC, CASCADE, POSITION, VELOCITY, BITS_12, BITS_15, BITS_16, FREEZE, ROOT, SQUARED, DEADBAND, REVERSE, RESET_9999,
-    MINUTES, RATE, BUMPLESS_II, INSIDE,
+    MANUAL, AUTOMATIC, CASCADE, POSITION, VELOCITY, BITS_12, BITS_15, BITS_16, FREEZE, ROOT_DOWN, ROOT_UP, ROOT_NEAR_HALF, SQUARED,
+    DEADBAND, REVERSE, RESET_9999, MINUTES, RATE, BUMPLESS_II, INSIDE,
     START, RESTART, HOLD, RESUME, JOG, JOG_HELD, JOG_LAST, NO_EFFECT, SEVERAL,
     UP, DOWN, FRACTION, EXACT, OVERSHOT, ALREADY_THERE, SLOPE_0_FIRST, SLOPE_0_LATER, SOAKS, SOAK_ENDS, DURATION_0, COMPLETES,
     HELD_RAMP, HELD_SOAK, HELD_NOTHING, DEVIATES, JUST_ALLOWED, NO_DEVIATION, IN_MANUAL, WAITS, TAKEN_OFF, POINTER_LOST, BELOW, ABOVE,
     FIRST_TABLE, LAST_TABLE, OVERLAP, ENTRY_RUNNING, ENTRY_START, FEATURES
 };
 static const char *const feature_names[FEATURES] = {"Manual", "Automatic", "Cascade", "position", "velocity", "12 bits", "15 bits",
-    "16 bits", "freeze at a limit", "root", "squared", "inside the deadband", "reverse", "reset 9999", "minutes", "rate",
-    "Bumpless II", "output inside its limits",
+    "16 bits", "freeze at a limit", "root down", "root up", "root at r x r + r", "squared", "inside the deadband", "reverse",
+    "reset 9999", "minutes", "rate", "Bumpless II", "output inside its limits",
     "Start", "Start of a running profile", "Hold", "Resume", "Jog", "Jog of a held profile", "Jog of segment 16",
     "command without effect", "several commands",
     "ramp up", "ramp down", "fraction alone moves", "end reached exactly", "end overshot", "already at the end", "slope 0 first",
@@ -311,7 +311,15 @@ static void spoil_record(unsigned loop) {
     else write_number(at, once_in(3) ? INT64_MIN : once_in(3) ? INT64_MAX : any64());
 }
 
-static void count_features(unsigned mode_1, const uint16_t *w, const int64_t *record, unsigned setpoint, unsigned pv) {
+/* A1, with the root on: the PV below the exact root or above it, and at r x r + r, the last product that goes down */
+static void count_root(uint64_t raw, unsigned full, uint64_t pv) {
+    uint64_t v = raw * full;
+    features[ROOT_DOWN] += pv * pv < v;
+    features[ROOT_UP] += pv * pv > v;
+    features[ROOT_NEAR_HALF] += v > 0 && v == pv * pv + pv;
+}
+
+static void count_features(unsigned mode_1, const uint16_t *w, const int64_t *record, unsigned setpoint, unsigned pv, uint64_t raw) {
     int working = record[KEXBARDI_FIELD_MODE] != 0, velocity = (mode_1 & 32) != 0, error = working && record[KEXBARDI_FIELD_ERROR] != 0;
     int64_t output = record[KEXBARDI_FIELD_OUTPUT];
     int at_limit = output == (int64_t)w[24] * 262144 || output == (int64_t)w[25] * 262144;
@@ -320,7 +328,7 @@ static void count_features(unsigned mode_1, const uint16_t *w, const int64_t *re
     features[VELOCITY] += working && velocity;
     features[w[1] & 512 ? BITS_16 : w[1] & 2 ? BITS_15 : BITS_12]++;
     features[FREEZE] += working && !velocity && mode_1 & 1024 && at_limit;
-    features[ROOT] += (mode_1 & 64) != 0 && pv != 0;
+    if (mode_1 & 64) count_root(raw, full_scale(w[1]), pv);
     features[SQUARED] += error && mode_1 & 128;
     features[DEADBAND] += working && mode_1 & 256 && !error && setpoint != pv;
     features[REVERSE] += error && mode_1 & 16;
@@ -426,10 +434,18 @@ static void count_refusal(uint8_t answer, unsigned loop, uint64_t raw) {
         reached[answer == 7 ? TABLE_DIGIT : TABLE_END]++;
 }
 
-/* The next raw PV: mostly on its way to the setpoint, else any; rarely above full scale. */
+/* Raw PVs whose root lies next to r + 1/2 (A1): two whose product with full scale is r x r + r, two with the least above one. */
+static unsigned raw_near_half(unsigned full) {
+    static const unsigned raws_12[] = {2, 4094, 27, 1987}, raws_15[] = {368, 32766, 703, 16549}, raws_16[] = {630, 65534, 1516, 47116};
+    return (full == 65535 ? raws_16 : full == 32767 ? raws_15 : raws_12)[any(4)];
+}
+
+/* The next raw PV: mostly on its way to the setpoint, else any; with the root on now and then one whose root lies next to
+ * r + 1/2; rarely above full scale. */
 static unsigned raw_pv(const uint16_t *w) {
     int full = (int)full_scale(w[1]), raw = w[3] + (w[2] - w[3]) / 4 + (int)any(41) - 20;
     if (once_in(100)) return any(2) ? any(65536) : (unsigned)full + any(2);
+    if (w[0] & KEXBARDI_M1_ROOT && once_in(10)) return raw_near_half((unsigned)full);
     if (once_in(6)) return any((unsigned)full + 1);
     if (once_in(6)) raw = w[2] + (int)any(61) - 30;
     return (unsigned)(raw < 0 ? 0 : raw > full ? full : raw);
@@ -450,7 +466,7 @@ static uint8_t sample(unsigned number) {
     if (a == 0) {
         accepted++;
         count_features(former.words[0], w, ours.records + KEXBARDI_FIELDS * (loop - 1), ours.line[KEXBARDI_LINE_SETPOINT],
-            ours.line[KEXBARDI_LINE_PV]);
+            ours.line[KEXBARDI_LINE_PV], raw);
         count_profile_features(&former, w);
     }
     if (a == 7 || a == 8) count_refusal(a, (unsigned)loop, raw);

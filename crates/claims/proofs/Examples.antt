@@ -1,6 +1,8 @@
 -- The computed examples of the crates below, named here so that none of them can go unnoticed.
 use mathlib.Core.Path.{_≡_}
 use mathlib.Core.List.{[], _∷_, _++_, map}
+use Rattle.numbers.specs.Roots.{rootOf}
+use Rattle.numbers.proofs.Examples as numbers
 use Rattle.carried.specs.Layout.{recordAt}
 use Rattle.reader.specs.File.{recordsOf}
 use Rattle.reader.proofs.Examples as reader
@@ -13,6 +15,10 @@ use Rattle.desk.specs.Desk.{resetDesk}
 use Rattle.desk.proofs.Examples as desk
 use Rattle.session.specs.Printed.{printedOf}
 use Rattle.session.proofs.Worked as worked
+
+-- A1, X4: roots next to r × r + r, at squares, and at the ends
+pub roots-computed : map (λ (c : numbers.Case). rootOf (c .v)) numbers.cases ≡ map (λ (c : numbers.Case). c .root) numbers.cases
+roots-computed = numbers.computed
 
 -- the examples of N1 to N3
 pub records-read : recordsOf reader.file ≡ map (λ (c : reader.Case). c .item) reader.cases

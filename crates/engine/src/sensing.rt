@@ -32,7 +32,7 @@ fn measured(root: bool, scale: u16, raw: u16) -> u16
     ensures { λ r. ⌜ r ≡ pvOf root scale raw ⌝ }
 {
     if root {
-        numbers::root(raw as u32 * scale as u32)
+        numbers::root(raw as u32 * scale as u32) as u16
     } else {
         raw
     }

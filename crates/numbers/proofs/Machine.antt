@@ -1,4 +1,4 @@
--- From a bound on a magnitude to the range of 64 bits, and from what the machine reads back of a number's bits to the number itself.
+-- From a bound on a magnitude to the range of 64 bits, of words to that of 32, and from what the machine reads back of a number's bits to the number itself.
 use mathlib.Core.Path.{_≡_, sym, subst, _∙_}
 use mathlib.Core.Bool.{Bool, true, false, not}
 use Prim.Native.Nat.{ℕ, _+_, _*_, _^_, _≤_, _<_}
@@ -25,6 +25,10 @@ sub-fits a b h = small (omega (arith, abs-sub a b))
 -- The widest product of the engine: two BCD settings, the second difference of three PVs, in units. Doubled, as rounding asks, it fits.
 pub widest-product : (k m : ℕ) → k ≤ 9999 * 9999 → m ≤ 131070 → 2 * (k * 262144 * m) < 2 ^ 63
 widest-product k m h l = omega (arith, mul-le-mul h l)
+
+-- two words multiply to what 32 bits hold
+pub word-product : {a b : ℕ} → a ≤ 65535 → b ≤ 65535 → a * b ≤ 65535 * 65535
+word-product h l = mul-le-mul h l
 
 -- ---- what the machine reads back
 

@@ -14,16 +14,23 @@ fn main() {
     words();
 }
 
-// X4: the root of raw PV 1,000 in 12 bits, that of 1,000 × 4,095, is 2,023.
+// X4: the root of raw PV 1,000 in 12 bits, that of 1,000 × 4,095, is 2,024. Then squares and r × r + r,
+// each with the number after it, up to the greatest `u32`.
 fn roots() {
-    say_word(b"root 4095000", numbers::root(4095000));
-    say_word(b"root 0", numbers::root(0));
-    say_word(b"root 1", numbers::root(1));
-    say_word(b"root 3", numbers::root(3));
-    say_word(b"root 4", numbers::root(4));
-    say_word(b"root 4294836224", numbers::root(4294836224));
-    say_word(b"root 4294836225", numbers::root(4294836225));
-    say_word(b"root 4294967295", numbers::root(4294967295));
+    say_root(b"root 4095000", 4095000);
+    say_root(b"root 0", 0);
+    say_root(b"root 1", 1);
+    say_root(b"root 2", 2);
+    say_root(b"root 3", 3);
+    say_root(b"root 4", 4);
+    say_root(b"root 6", 6);
+    say_root(b"root 7", 7);
+    say_root(b"root 4294770690", 4294770690);
+    say_root(b"root 4294770691", 4294770691);
+    say_root(b"root 4294836225", 4294836225);
+    say_root(b"root 4294901760", 4294901760);
+    say_root(b"root 4294901761", 4294901761);
+    say_root(b"root 4294967295", 4294967295);
 }
 
 fn halves_up() {
@@ -129,6 +136,10 @@ fn words() {
     say_hex(b"hex 2050", 2050);
     say_hex(b"hex 43981", 43981);
     say_hex(b"hex 65535", 65535);
+}
+
+fn say_root(call: &[u8], v: u32) {
+    say_large(call, numbers::root(v) as u64);
 }
 
 fn say_word(call: &[u8], n: u16) {

@@ -1,45 +1,69 @@
--- The laws of the root: it is the one number r with r × r ≤ v < (r + 1) × (r + 1).
-use mathlib.Core.Path.{_≡_, refl}
-use mathlib.Core.Bool.{Bool, true, false}
-use Prim.Native.Nat.{ℕ, zero, suc, _+_, _*_, _/_, _^_, _≤_, _<_}
+-- The laws of the root. The greatest number whose square is at most v is the one r with r × r ≤ v < (r + 1) × (r + 1); the root of v, to
+-- the nearest whole number, the one r within a half of the exact root.
+use mathlib.Core.Path.{_≡_, ap}
+use Prim.Native.Nat.{ℕ, zero, suc, _+_, _*_, _-_, _/_, _^_, _≤_, _<_}
 use native.Mathlib.Omega.{arith}
-use native.Mathlib.Nat.{mul-le-mul, pow-suc}
-use borrow.Author.Tests.{leb-true, leb-false}
+use native.Mathlib.Nat.{mul-le-mul, mul-le-mul-right, pow-suc, lt-of-not-le}
 use lib.Dec.{leb, leb→le, nleb→lt}
 use Rattle.numbers.specs.Limits.Laws.{by-test}
-use Rattle.numbers.specs.Roots.{rootWithin, rootOf}
+use Rattle.numbers.specs.Roots.{rootWithin, rootOf, Nearest}
 
--- r is the root of v
-pub record Root (v r : ℕ) : Type 0 where
+-- ---- the greatest number whose square is at most v
+
+pub record Greatest (v r : ℕ) : Type 0 where
   pub most : r * r ≤ v
   pub next : v < (r + 1) * (r + 1)
 
-root-within : (digits v : ℕ) → v < 4 ^ digits → Root v (rootWithin digits v)
+pub greatest-within : (digits v : ℕ) → v < 4 ^ digits → Greatest v (rootWithin digits v)
 unfolding rootWithin
-root-within zero v h = record { most = omega arith; next = omega arith }
-root-within (suc digits) v h =
+greatest-within zero v h = record { most = omega arith; next = omega arith }
+greatest-within (suc digits) v h =
     let s = rootWithin digits (v / 4) in
-    let ih = root-within digits (v / 4) (omega (arith, pow-suc 4 digits)) in
-    by-test (Root v) (leb ((2 * s + 1) * (2 * s + 1)) v)
+    let ih = greatest-within digits (v / 4) (omega (arith, pow-suc 4 digits)) in
+    by-test (Greatest v) (leb ((2 * s + 1) * (2 * s + 1)) v)
     (λ t. record { most = leb→le _ _ t; next = omega (arith, ih .next) })
     (λ t. record { most = omega (arith, ih .most); next = nleb→lt _ _ t })
 
-pub root-exact : (v : ℕ) → v < 2 ^ 32 → Root v (rootOf v)
-unfolding rootOf
-root-exact v h = root-within 16 v h
-
+-- a number is no higher than another where its square is below the square after that
 below-next : (a b : ℕ) → a * a < (b + 1) * (b + 1) → a ≤ b
-below-next a b h = go (leb a b) refl
-  where
-    go : (t : Bool) → leb a b ≡ t → a ≤ b
-    go true e = leb-true a b e
-    go false e = let k : b + 1 ≤ a = omega (arith, leb-false a b e) in absurd (omega (arith, mul-le-mul k k))
+below-next a b h =
+    let no : b + 1 ≤ a → ⊥ = λ l. omega (arith, mul-le-mul l l) in
+    omega (arith, lt-of-not-le no)
 
--- a number whose square is at least v is at least the root
-pub root-high : {v r : ℕ} → Root v r → (k : ℕ) → v ≤ k * k → r ≤ k
-root-high {v} {r} p k h = below-next r k (omega (arith, p .most))
+pub greatest-only : {v r s : ℕ} → Greatest v r → Greatest v s → r ≡ s
+greatest-only {v} {r} {s} p q =
+    omega (arith, below-next r s (omega (arith, p .most, q .next)), below-next s r (omega (arith, q .most, p .next)))
+
+-- ---- the nearest
+
+pub root-exact : (v : ℕ) → v < 2 ^ 32 → Nearest v (rootOf v)
+unfolding rootOf
+root-exact v h =
+    let r = rootWithin 16 v in
+    let g = greatest-within 16 v h in
+    by-test (Nearest v) (leb v (r * r + r))
+    (λ t. record { above = λ p. omega (arith, g .most); below = leb→le _ _ t })
+    (λ t. record { above = λ p. omega (arith, nleb→lt v (r * r + r) t); below = omega (arith, g .next) })
+
+-- the exact root is never halfway between two numbers: (2 × r − 1)² < 4 × v < (2 × r + 1)²
+pub root-no-tie : {v r : ℕ} → Nearest v r → (0 < r → (2 * r - 1) * (2 * r - 1) < 4 * v) × (4 * v < (2 * r + 1) * (2 * r + 1))
+root-no-tie {v} {r} p =
+    (λ h. let e : 2 * r - 1 + 1 ≡ 2 * r = omega arith in omega (arith, p .above h, ap (λ (n : ℕ). n * n) e), omega (arith, p .below))
+
+-- roots are in the order of their numbers
+pub root-order : {v w r s : ℕ} → Nearest v r → Nearest w s → v ≤ w → r ≤ s
+root-order {v} {w} {r} {s} p q h =
+    let no : s + 1 ≤ r → ⊥ = λ l. omega (arith, p .above (omega arith), q .below, mul-le-mul-right r l, mul-le-mul-right s l) in
+    omega (arith, lt-of-not-le no)
 
 -- no other number is the root
-pub root-only : {v r s : ℕ} → Root v r → Root v s → r ≡ s
-root-only {v} {r} {s} p q =
-    omega (arith, below-next r s (omega (arith, p .most, q .next)), below-next s r (omega (arith, q .most, p .next)))
+pub root-only : {v r s : ℕ} → Nearest v r → Nearest v s → r ≡ s
+root-only p q = omega (arith, root-order p q (omega arith), root-order q p (omega arith))
+
+-- a square has its own root
+pub square-root : (k : ℕ) → Nearest (k * k) k
+square-root k = record { above = λ h. omega arith; below = omega arith }
+
+-- a number whose square is at least v is at least the root
+pub root-high : {v r : ℕ} → Nearest v r → (k : ℕ) → v ≤ k * k → r ≤ k
+root-high p k h = root-order p (square-root k) h

@@ -1,18 +1,24 @@
--- `engine::measured` meets its contract: two words multiply to less than 2 ^ 32.
+-- `engine::measured` meets its contract: two words multiply to at most the square of the greatest word, so the root is a word.
 use borrow.Author.Needs.{needs}
+use Prim.Native.Nat.{_*_}
 use native.Mathlib.Omega.{arith}
-use native.Mathlib.Nat.{mul-le-mul}
+use Rattle.numbers.specs.Roots.Laws.{root-exact, root-high}
+use Rattle.numbers.proofs.Machine.{word-product}
 use Rattle.engine.specs.Sensing.{pvOf}
 use Rattle.engine.proofs.sensing.measured.Statement.{statement}
 use Rattle.engine.proofs.sensing.measured.Tie as tie
 
 mul-root : tie.Need-mul-root
-mul-root c =
-    let a = c .before .args in
-    omega (arith, mul-le-mul {n₁ = a .raw} {m₁ = a .scale} {n₂ = 65535} {m₂ = 65535} (search needs) (search needs))
+mul-root c = let a = c .before .args in omega (arith, word-product {a = a .raw} {b = a .scale} (search needs) (search needs))
 
 root-requires : tie.Need-root-requires
 root-requires c κs = search needs
+
+cast-result : tie.Need-cast-result
+cast-result c =
+    let a = c .before .before .args in
+    let h = word-product {a = a .raw} {b = a .scale} (search needs) (search needs) in
+    omega (arith, c .root .ensures, root-high (root-exact (a .raw * a .scale) (omega (arith, h))) 65535 h)
 
 returns : tie.Need-returns
 unfolding pvOf
@@ -23,4 +29,4 @@ unfolding pvOf
 returns-2 c = rw (c .if1 .left)
 
 pub measured-spec : {M : Type 1} → statement M
-measured-spec = tie.close (tie.spec mul-root root-requires returns returns-2)
+measured-spec = tie.close (tie.spec mul-root root-requires cast-result returns returns-2)
