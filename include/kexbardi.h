@@ -119,7 +119,7 @@ enum kexbardi_mode_1 {
                                               unless a profile runs (A4, G11) */
     KEXBARDI_M1_REVERSE = 0x0010,          /* the output rises with the PV; off: it falls as the PV rises (M1) */
     KEXBARDI_M1_VELOCITY = 0x0020,         /* velocity form; off: position form */
-    KEXBARDI_M1_ROOT = 0x0040,             /* square root of the PV, to the nearest count (A1) */
+    KEXBARDI_M1_ROOT = 0x0040,             /* the PV is the root of raw PV x full scale, to the nearest count (A1) */
     KEXBARDI_M1_SQUARED = 0x0080,          /* error squared */
     KEXBARDI_M1_DEADBAND = 0x0100,         /* error deadband of KEXBARDI_DEADBAND */
     KEXBARDI_M1_FREEZE = 0x0400,           /* the bias is frozen while the output would pass a limit */

@@ -5,7 +5,7 @@ use native.Mathlib.Nat.{mul-le-mul, mul-le-mul-right}
 use mathlib.Core.Path.{_≡_}
 use mathlib.Core.Bool.{true, false}
 use Rattle.numbers.specs.Roots.{rootOf, Nearest}
-use Rattle.numbers.specs.Roots.Laws.{root-exact, root-only, root-order, root-high, square-root}
+use Rattle.numbers.specs.Roots.Laws.{root-exact, root-no-tie, root-only, root-order, root-high, square-root}
 use Rattle.refusals.specs.Refusals.Laws.{accepted-only}
 use Rattle.table.specs.Reading.Laws.{input-high}
 use Rattle.carried.specs.Layout.{recordAt}
@@ -42,6 +42,7 @@ pub rooted : Rooted
 rooted = record {
   near = nearest;
   only = λ v r s p q. root-only p q;
+  half = λ v r p. root-no-tie p;
   high = high;
   full = λ d k t. root-only (nearest d k (fullAt d k) t) (square-root (fullAt d k));
   order = λ d k low high t u h. root-order (nearest d k low t) (nearest d k high u) (mul-le-mul-right (fullAt d k) h);

@@ -79,6 +79,8 @@ mixed =
     ∷ writing set-up (sample 9 1000) 0 2000 1
     ∷ step (store 258 1500) 0 2000 1
     ∷ step (sample 9 1000) 0 3100 2
+    -- A1: with the root p is 2,024, so e = −524: 2,100 − 104.8 − 1,048
+    ∷ writing (λ ws. set ws 256 64) (sample 9 1000) 0 947 3
     ∷ []
 
 pub computed : rows resetDesk (begun (recordAt (resetDesk .numbers) 9)) mixed ≡ map expected mixed

@@ -56,6 +56,9 @@ root-order {v} {w} {r} {s} p q h =
     let no : s + 1 ≤ r → ⊥ = λ l. omega (arith, p .above (omega arith), q .below, mul-le-mul-right r l, mul-le-mul-right s l) in
     omega (arith, lt-of-not-le no)
 
+pub root-monotone : {v w : ℕ} → v ≤ w → w < 2 ^ 32 → rootOf v ≤ rootOf w
+root-monotone {v} {w} h l = root-order (root-exact v (omega arith)) (root-exact w l) h
+
 -- no other number is the root
 pub root-only : {v r s : ℕ} → Nearest v r → Nearest v s → r ≡ s
 root-only p q = omega (arith, root-order p q (omega arith), root-order q p (omega arith))
