@@ -879,6 +879,32 @@ static void accepted_at_rest(int64_t output, int64_t error) {
     check_record(1, 1, 0, 0, 1000, 1000, 0, 0, 1);
 }
 
+/* P19. A loop with the root as 4.0.0 left it, which rounded down: steady at raw PV 1,000, setpoint and both PVs 2,023. Gain 2.00,
+ * rate time 10.00 s, period 0.20 s. */
+static void begin_saved(const char *name) {
+    begin_lent(name, 1, UNITS(2000), UNITS(2000), 2023, 2023, 0, 0, 1);
+    words[KEXBARDI_MODE_1] = KEXBARDI_M1_ROOT, words[KEXBARDI_SETPOINT] = 2023;
+    words[KEXBARDI_PERIOD] = 0x0020, words[KEXBARDI_RATE] = 0x1000;
+}
+
+static void saved_by_4_0_0(void) {
+    begin_saved("saved by 4.0.0, and gone on with");
+    equals("first sample", sample(1, 1000), 0);
+    check_line(2023, 2024, 1898, 0x0002); /* e = -1, D = 100: 2,000 - 0.04 - 2 - 100 */
+    equals("second sample", sample(1, 1000), 0);
+    check_line(2023, 2024, 1998, 0x0002); /* D = 0: 1,999.96 - 0.04 - 2 */
+
+    begin_saved("saved by 4.0.0, and begun anew");
+    words[KEXBARDI_MODE_1] |= KEXBARDI_M1_MANUAL;
+    equals("Manual", sample(1, 1000), 0);
+    check_line(2023, 2024, 2000, 0x0001);
+    words[KEXBARDI_MODE_1] |= KEXBARDI_M1_AUTOMATIC;
+    for (int n = 0; n < 3; n++) {
+        equals("Automatic", sample(1, 1000), 0);
+        check_line(2024, 2024, 2000, 0x0002);
+    }
+}
+
 static void lent_ends(void) {
     begin_at_rest(0, 65536);
     equals("error 65,536", sample(1, 1000), 5);
@@ -1444,6 +1470,7 @@ int main(void) {
     longest_profile();
     table_words();
     lent_ends();
+    saved_by_4_0_0();
     first_samples();
     change_alarms();
     manual();
