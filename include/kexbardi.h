@@ -253,7 +253,7 @@ enum kexbardi_field {
 
 enum kexbardi_mode { KEXBARDI_MANUAL = 0, KEXBARDI_AUTOMATIC = 1, KEXBARDI_CASCADE = 2 };
 
-/* ---- the refusals (N1 to N9), by the numbers that instructors know from drill files */
+/* ---- the refusals (N1 to N10), up to 9 by the numbers that instructors know from drill files */
 
 enum kexbardi_refusal {
     KEXBARDI_ACCEPTED = 0,
@@ -267,10 +267,11 @@ enum kexbardi_refusal {
     KEXBARDI_DIGIT = 7,    /* sample, forecast: period, gain, reset or rate has a digit above 9; or, with
                               KEXBARDI_M1_PROFILE on and a good address, a slope or duration of the table */
     KEXBARDI_SETTING = 8,  /* sample, forecast: a setting that is not allowed (N8 of MANUAL.md lists them) */
-    KEXBARDI_ABOVE = 9     /* sample: the raw PV is above full scale */
+    KEXBARDI_ABOVE = 9,    /* sample: the raw PV is above full scale */
+    KEXBARDI_ROOM = 10     /* kexbardi_setup: the room is shorter than the file */
 };
 
-/* ---- the functions (Q1 to Q11) */
+/* ---- the functions (Q1 to Q12) */
 
 /* KEXBARDI_VERSION as the library was built with it. A program must not use a library whose major number is not
  * its header's: layouts and parameters differ. One that wants the very answers it was tested with compares the
@@ -342,6 +343,18 @@ uint8_t kexbardi_run(const uint8_t *file, size_t file_length, uint16_t *words, s
  * Answers 5 where out_length is below KEXBARDI_PRINT_ROOM (9 for a file that is too long); else 0: the text
  * stands at the start of `out`, and `length` is its length. Bytes behind it stay. */
 uint8_t kexbardi_print(const uint8_t *file, size_t file_length, uint8_t *out, size_t out_length, size_t *length);
+
+/* Room that is enough for the setup file of any words: 960 of them can be handed on, by a record of eight bytes each. */
+#define KEXBARDI_SETUP_ROOM 7680
+
+/* The words written as a drill file that rebuilds them from reset (L13): a store for each word that is not 0, in the
+ * order of their addresses, without words 3, 4, 6 and 29 of the loops. Requests and commands that wait are words like
+ * any other; what the loops carry is not handed on.
+ * Answers 5 where words_length is not 1,024; 10 where out_length is below the file's length; nothing is written then,
+ * `length` neither. Else 0: the file stands at the start of `out`, and `length` is its length; bytes behind it stay.
+ * KEXBARDI_SETUP_ROOM bytes are always enough. The file of words that are all 0 is empty: its length is 0, and no room
+ * is enough for it too. */
+uint8_t kexbardi_setup(const uint16_t *words, size_t words_length, uint8_t *out, size_t out_length, size_t *length);
 
 #ifdef __cplusplus
 }

@@ -13,25 +13,29 @@ use Rattle.refusals.specs.declared.Answer.{Answer}
 use Rattle.refusals.specs.declared.Answer.the-variants.{Accepted, Refused}
 use Rattle.refusals.specs.declared.Refusal.the-variants.{Setting, Above}
 use Rattle.refusals.specs.Refusals.{numberOf, _⇒_, firstOf}
-use Rattle.refusals.specs.Refusals.Laws.{in-table, accepted-only}
+use Rattle.refusals.specs.Refusals.Laws.{in-table, accepted-only, first-up-to}
 use Rattle.table.specs.declared.reading.Reading.{Reading}
 use Rattle.table.specs.Words.{any}
 use Rattle.carried.specs.Layout.{fieldCount, numberCount, slotOf, numbersAt, recordAt, outOfRange}
 use Rattle.judging.specs.Judging.{readingCases}
-use Rattle.desk.specs.Desk.{Desk, lent, fittingOf, noLoop, resetAnswer, resetLeft, engineWord, storeAnswer, storeLeft, readingAt, sampleAnswer, remainingOf, countedBy, forecastAt, copiedBy, fieldsAnswer, fieldsLeft}
+use Rattle.desk.specs.Desk.{Desk, lent, fittingOf, memoryCases, noLoop, resetAnswer, resetLeft, engineWord, storeCases, storeAnswer, storeLeft, readingAt, sampleCases, sampleAnswer, remainingOf, countedBy, forecastAt, copiedBy, fieldsAnswer, fieldsLeft}
 use Rattle.desk.specs.Desk.Laws.{sound, there-loop, answer-ranged, reset-sound, reset-numbers}
-use Rattle.desk.specs.Lists.{reset, store, sample, answerTo, deskAfter}
+use Rattle.desk.specs.Lists.{Call, reset, store, sample, answerTo, deskAfter}
 use Rattle.desk.specs.Lists.Laws.{refused-call, unfit}
 use Rattle.kexbardi.specs.Interface.{lineLeft}
 use Rattle.kexbardi_profiles.specs.Told.{toldBy}
+use Rattle.setups.specs.Setup.{setupOf, setupAnswer, setupLeft}
+use Rattle.kexbardi_files.specs.Files.{filled, setupFilled}
 use Rattle.claims.specs.Calls.{Reserved, pv, bias, status, profile, Settled, Rows, Called}
 
--- every answer is 0 or a number of N1 to N9
-pub small : (a : Answer) → numberOf a ≤ 9
-small Accepted = omega arith
-small (Refused why) = in-table why .1
+-- the answer to a call is 0 or a number up to 9
+pub small : (d : Desk) (call : Call) → numberOf (answerTo d call) ≤ 9
+unfolding answerTo resetAnswer storeAnswer sampleAnswer
+small d reset = first-up-to 9 (memoryCases d) (omega arith)
+small d (store address value) = first-up-to 9 (storeCases d address) (omega arith)
+small d (sample k raw) = first-up-to 9 (sampleCases d k raw) (omega arith)
 
-fitting : (d : Desk) → length (d .words) ≡ 1024 → length (d .numbers) ≡ numberCount → fittingOf d ≡ true
+pub fitting : (d : Desk) → length (d .words) ≡ 1024 → length (d .numbers) ≡ numberCount → fittingOf d ≡ true
 unfolding fittingOf
 fitting d ws ns = rw (ws, ns)
 
@@ -39,7 +43,7 @@ fitting d ws ns = rw (ws, ns)
 
 -- an offset that no store reaches is one of the definition's, and the other way round
 module _ (address : ℕ) where
-  reserved : address < 512 → Reserved (address % 32) → engineWord address ≡ true
+  pub reserved : address < 512 → Reserved (address % 32) → engineWord address ≡ true
   reserved low r = rw (lt-ltb address 512 low) (go r)
     where
       go : {i : ℕ} → Reserved i → any (eqb i 3 ∷ eqb i 4 ∷ eqb i 6 ∷ eqb i 29 ∷ []) ≡ true
@@ -48,7 +52,7 @@ module _ (address : ℕ) where
       go status = refl
       go profile = refl
 
-  free : (address < 512 → Reserved (address % 32) → ⊥) → engineWord address ≡ false
+  pub free : (address < 512 → Reserved (address % 32) → ⊥) → engineWord address ≡ false
   free unkept = above (ltb address 512) refl
     where
       none : (i : ℕ) → (Reserved i → ⊥) → any (eqb i 3 ∷ eqb i 4 ∷ eqb i 6 ∷ eqb i 29 ∷ []) ≡ false
@@ -65,7 +69,7 @@ module _ (address : ℕ) where
       above false e = rw e
 
 module _ (d : Desk) (address : ℕ) (fit : fittingOf d ≡ true) where
-  stored : (value : ℕ) → address ≤ 1023 → engineWord address ≡ false
+  pub stored : (value : ℕ) → address ≤ 1023 → engineWord address ≡ false
       → (numberOf (storeAnswer d address) ≡ 0) × (storeLeft d address value ≡ lent (set (d .words) address value) (d .numbers))
   unfolding storeLeft storeAnswer
   stored value low reach =
@@ -187,11 +191,24 @@ fields-refused ns k = (
   λ e above below out. rw (eq-eqb (length ns) numberCount e, there-loop k above below, out),
 )
 
+-- ---- a setup file
+
+module _ (ws out : List ℕ) (size : ℕ) where
+  handed : ((length ws ≡ 1024 → ⊥) → setupFilled ws out size ≡ filled 5 out size)
+      × (length ws ≡ 1024 → length out < length (setupOf ws) → setupFilled ws out size ≡ filled 10 out size)
+      × (length ws ≡ 1024 → length (setupOf ws) ≤ length out → setupFilled ws out size ≡ filled 0 (sets out 0 (setupOf ws)) (length (setupOf ws)))
+  unfolding setupFilled setupAnswer setupLeft
+  handed = (
+    λ ne. rw (ne-eqb (length ws) 1024 ne),
+    λ e h. rw (eq-eqb (length ws) 1024 e, lt-ltb (length out) (length (setupOf ws)) h),
+    λ e h. rw (eq-eqb (length ws) 1024 e, le-ltb (length out) (length (setupOf ws)) h),
+  )
+
 pub called : Called
 unfolding answerTo deskAfter
 called = record {
   lengths = λ d. (fitting d, λ e. (sound d e .words, sound d e .numbers));
-  answers = λ d call. (small (answerTo d call), λ e. ap numberOf (unfit d e call));
+  answers = λ d call. (small d call, λ e. ap numberOf (unfit d e call));
   zero = accepted-only;
   rows = sample-rows;
   stores = λ d address value fit low unkept. stored d address fit value low (free address unkept);
@@ -205,4 +222,5 @@ called = record {
   uncopied = fields-refused;
   forecast = λ d k samples. forecasts d k samples .2;
   fields = fields-left;
+  hands = handed;
 }

@@ -11,26 +11,38 @@ use lib.ListN.{length, getD, set, length-set, length-append}
 use lib.Seq.{sets, getD-set-same, getD-set-other}
 use borrow.Author.Tests.{ne-eqb, lt-ltb, le-ltb, ltb-false}
 use Rattle.reader.specs.declared.Record.{Record}
-use Rattle.reader.specs.File.{wordAt, wholeAt, recordsOf}
-use Rattle.reader.specs.File.Laws.{covered, spans-length, cut-at, whole-at, cut-last, records-step, spans-step, records-end}
+use Rattle.reader.specs.File.{wordAt, wholeAt, recordAt, recordsFrom, recordsOf}
+use Rattle.reader.specs.File.Laws.{covered, spans-length, cut-at, whole-at, cut-last, by-records, every-record, records-step, spans-step, records-end}
 use Rattle.desk.specs.Desk.{Desk, fittingOf, resetDesk}
 use Rattle.desk.specs.Desk.Laws.{reset-fits}
+use Rattle.desk.specs.Lists.{store, sample}
 use Rattle.lines.specs.Lines.{lineText, lastText}
-use Rattle.session.specs.Session.{answerFor, numberFor, leftFor, shownFor, State, begun, after, runOf, answersFor, refusalsIn, endedOf, leftOf, answersOf}
+use Rattle.session.specs.Session.{numberFor, leftFor, shownFor, State, begun, after, runOf, answersFor, refusalsIn, endedOf, leftOf, answersOf}
 use Rattle.session.specs.Session.Laws.{run-counts, answers-length, refused-leaves}
 use Rattle.session.specs.Printed.{linesOf, bodyOf, tooLong, printedOf, roomFor, printedWithin}
-use Rattle.kexbardi_files.specs.Files.{printed, printLeft}
+use Rattle.kexbardi_files.specs.Files.{filled, printLeft}
 use Rattle.claims.specs.Demand1.{Whole, Demand1}
 use Rattle.claims.proofs.Calls.{small, called}
 use Rattle.claims.proofs.Names.{names}
 
 -- ---- the answers of a file
 
-answers-small : (d : Desk) (xs : List Record) (i : ℕ) → getD (answersFor d xs) i 0 ≤ 9
+-- a file's records are stores, samples, and refused with 1, 2 or 3
+answers-small : (file : List ℕ) (at : ℕ) (d : Desk) (i : ℕ) → getD (answersFor d (recordsFrom file at)) i 0 ≤ 9
 unfolding answersFor
-answers-small d [] i = omega arith
-answers-small d (x ∷ xs) zero = small (answerFor d x)
-answers-small d (x ∷ xs) (suc i) = answers-small (leftFor d x) xs i
+answers-small file = by-records file Small end more
+  where
+    Small : ℕ → Type 0
+    Small at = (d : Desk) (i : ℕ) → getD (answersFor d (recordsFrom file at)) i 0 ≤ 9
+
+    end : (at : ℕ) → length file ≤ at → Small at
+    end at h d i = rw (records-end file at h) (omega arith)
+
+    more : (at : ℕ) → at < length file → Small (recordAt file at .next) → Small at
+    more at h rest d zero =
+        rw (records-step file at h)
+        (every-record (λ x. numberFor d x ≤ 9) (λ address value. small d (store address value)) (λ k raw. small d (sample k raw)) (omega arith) (omega arith) (omega arith) file at)
+    more at h rest d (suc i) = rw (records-step file at h) (rest (leftFor d (recordAt file at .item)) i)
 
 -- the answer to a record is that of the desk as the records before left it
 answer-at : (t : State) (before : List Record) (x : Record) (after : List Record)
@@ -50,7 +62,7 @@ unfolding answersOf
 numbers-small file d i = go (fittingOf d)
   where
     go : (b : Bool) → getD (cond b (answersFor d (recordsOf file)) []) i 0 ≤ 9
-    go true = answers-small d (recordsOf file) i
+    go true = answers-small file 0 d i
     go false = omega arith
 
 -- ---- the answers' buffer: values stored from a place on, as far as there is room
@@ -134,11 +146,11 @@ unfolding printedOf
 long-file file h = rw (lt-ltb 65536 (length file) h)
 
 module _ (file out : List ℕ) (size : ℕ) where
-  printed-there : roomFor file ≤ length out → printLeft file out size ≡ printed 0 (sets out 0 (printedOf file)) (length (printedOf file))
+  printed-there : roomFor file ≤ length out → printLeft file out size ≡ filled 0 (sets out 0 (printedOf file)) (length (printedOf file))
   unfolding printLeft printedWithin
   printed-there h = rw (le-ltb (length out) (roomFor file) h, ne-eqb (length (printedOf file)) 0 (λ e. omega (arith, printed-some file)))
 
-  not-printed : length out < roomFor file → printLeft file out size ≡ printed 5 out size
+  not-printed : length out < roomFor file → printLeft file out size ≡ filled 5 out size
   unfolding printLeft printedWithin
   not-printed h = rw (lt-ltb (length out) (roomFor file) h)
 

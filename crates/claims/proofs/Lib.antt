@@ -1,9 +1,10 @@
--- The proofs of the three demands and of what is promised of profiles and of the root, and the computed examples that they rest beside.
+-- The proofs of the three demands and of what is promised of profiles, of the root and of the setup file, and the computed examples that they rest beside.
 pub mod Turns
 pub mod Names
 pub mod Calls
 pub mod Profiles
 pub mod Roots
+pub mod Setups
 pub mod Demand1
 pub mod Demand2
 pub mod Demand3

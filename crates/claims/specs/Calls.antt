@@ -1,10 +1,11 @@
--- What every direct call (Q1 to Q4, Q11) answers and leaves, on memory of any lengths.
+-- What every direct call (Q1 to Q4, Q11, Q12) answers and leaves, on memory of any lengths.
 use Prim.Native.Nat.{ℕ, _%_, _≤_, _<_}
 use mathlib.Core.Path.{_≡_}
 use mathlib.Core.Bool.{true, false, _||_}
 use mathlib.Core.List.{List}
 use lib.IntN.{ℤ, pos}
 use lib.ListN.{length, set, replicate}
+use lib.Seq.{sets}
 use Rattle.refusals.specs.declared.Answer.{Answer}
 use Rattle.refusals.specs.declared.Answer.the-variants.{Accepted}
 use Rattle.refusals.specs.Refusals.{numberOf}
@@ -16,6 +17,8 @@ use Rattle.desk.specs.Desk.{Desk, lent, fittingOf, resetAnswer, resetLeft, stor
 use Rattle.desk.specs.Lists.{Call, answerTo}
 use Rattle.kexbardi.specs.Interface.{lineLeft}
 use Rattle.kexbardi_profiles.specs.Told.{toldBy}
+use Rattle.setups.specs.Setup.{setupOf}
+use Rattle.kexbardi_files.specs.Files.{filled, setupFilled}
 
 -- N6: the words of a loop that no store reaches
 pub data Reserved : ℕ → Type 0 where
@@ -67,6 +70,11 @@ pub record Called : Type 0 where
   -- Q11: a forecast is refused as a sample with raw PV 0 is; else it counts the samples that remain
   pub foretells : (d : Desk) (k samples : ℕ) → let t = toldBy (forecastAt d k) samples in
       (t .number ≡ numberOf (sampleAnswer d k 0)) × (t .number ≡ 0 → t .samples ≡ remainingOf (d .words) k (recordAt (d .numbers) k))
+  -- Q12, Q8: of words of another length the answer to a setup is 5, of too little room 10, and room and length stay; else the file stands at the start
+  -- of the room, and its length is told
+  pub hands : (ws out : List ℕ) (size : ℕ) → ((length ws ≡ 1024 → ⊥) → setupFilled ws out size ≡ filled 5 out size)
+      × (length ws ≡ 1024 → length out < length (setupOf ws) → setupFilled ws out size ≡ filled 10 out size)
+      × (length ws ≡ 1024 → length (setupOf ws) ≤ length out → setupFilled ws out size ≡ filled 0 (sets out 0 (setupOf ws)) (length (setupOf ws)))
   -- Q8: one that is refused leaves all that was lent to it
   pub reset : (d : Desk) → 0 < numberOf (resetAnswer d) → resetLeft d ≡ d
   pub store : (d : Desk) (address value : ℕ) → 0 < numberOf (storeAnswer d address) → storeLeft d address value ≡ d

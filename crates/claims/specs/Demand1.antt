@@ -16,7 +16,7 @@ use Rattle.desk.specs.Desk.{Desk, fittingOf, resetDesk}
 use Rattle.lines.specs.Lines.{lineText, lastText}
 use Rattle.session.specs.Session.{numberFor, leftFor, shownFor, begun, runOf, refusalsIn, endedOf, leftOf, answersOf}
 use Rattle.session.specs.Printed.{bodyOf, printedOf, roomFor, printedWithin}
-use Rattle.kexbardi_files.specs.Files.{ended, endedBy, answersLeft, printed, printLeft}
+use Rattle.kexbardi_files.specs.Files.{ended, endedBy, answersLeft, filled, printLeft}
 use Rattle.claims.specs.Calls.{Called}
 use Rattle.claims.specs.Names.{Names}
 
@@ -83,8 +83,8 @@ pub record Demand1 : Type 0 where
   pub too-long : (file : List ℕ) → 65536 < length file → printedOf file ≡ bytes "too long\n"
   -- Q6: where there is room the text is at the start of the buffer; else the answer is 5, and buffer and length stay
   pub prints : (file out : List ℕ) (size : ℕ) → roomFor file ≤ length out
-      → printLeft file out size ≡ printed 0 (sets out 0 (printedOf file)) (length (printedOf file))
-  pub no-room : (file out : List ℕ) (size : ℕ) → length out < roomFor file → printLeft file out size ≡ printed 5 out size
+      → printLeft file out size ≡ filled 0 (sets out 0 (printedOf file)) (length (printedOf file))
+  pub no-room : (file out : List ℕ) (size : ℕ) → length out < roomFor file → printLeft file out size ≡ filled 5 out size
   -- the program's buffer has 655,460 bytes (`session::output_buffer`): always enough
   pub program : (file : List ℕ) → printedWithin 655460 file ≡ printedOf file
   -- ---- direct calls, and what the names stand for

@@ -1,10 +1,11 @@
--- The client's three demands, and what is promised of profiles and of the root, each a type whose proof stands beside it in proofs/. They speak of
+-- The client's three demands, and what is promised of profiles, of the root and of the setup file, each a type whose proof stands beside it in proofs/. They speak of
 -- the definitions that the contracts of the exported calls cite: any lent words, any lent numbers, any lengths.
 pub mod Turns
 pub mod Names
 pub mod Calls
 pub mod Profiles
 pub mod Roots
+pub mod Setups
 pub mod Demand1
 pub mod Demand2
 pub mod Demand3

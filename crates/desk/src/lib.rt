@@ -20,5 +20,6 @@ pub use resetting::reset;
 pub use sampling::sample;
 pub use showing::fields;
 pub use showing::line;
+pub use storing::engine_word;
 pub use storing::store;
 pub use table::WORDS;

@@ -16,7 +16,7 @@ const FIRST_FREE: u64 = 512; // words from here on belong to no loop
 const LAST_ADDRESS: u64 = WORDS as u64 - 1;
 
 // N6: the words of a loop that no store reaches: PV, bias and status, which samples write, and word 29.
-fn engine_word(address: u64) -> bool
+pub fn engine_word(address: u64) -> bool
     ensures { λ r. ⌜ r ≡ engineWord address ⌝ }
 {
     let offset = address as usize % LOOP_WORDS;

@@ -1,5 +1,5 @@
-// Why a record of a drill file, or a call, is refused: one list of reasons for reader, engine and desk,
-// with their numbers (N1 to N9).
+// Why a record of a drill file, or a call, is refused: one list of reasons for reader, engine, desk and setup,
+// with their numbers (N1 to N10).
 ghost use mathlib.Core.Path.{_≡_};
 ghost use Rattle.refusals.specs.Refusals.{numberOf};
 
@@ -24,6 +24,8 @@ pub const SETTING: u8 = 8;
 
 pub const ABOVE: u8 = 9;
 
+pub const ROOM: u8 = 10;
+
 pub enum Refusal {
     Cut, // N1: the file ends inside the record
     Kind, // N2: the record has no kind, or none that is known
@@ -35,6 +37,7 @@ pub enum Refusal {
     Digit, // N7: one of words 7 to 10 has a digit above 9
     Setting, // N8: a setting that is not allowed
     Above, // N9: the raw PV is above full scale
+    Room, // N10: the room lent for a setup file is shorter than the file
 }
 
 pub enum Answer {
@@ -59,6 +62,7 @@ pub fn number_of(answer: Answer) -> u8
             Refusal::Digit => DIGIT,
             Refusal::Setting => SETTING,
             Refusal::Above => ABOVE,
+            Refusal::Room => ROOM,
         },
     }
 }

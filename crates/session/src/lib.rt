@@ -3,6 +3,7 @@ mod printing;
 mod running;
 mod turn;
 
+pub use printing::LONGEST;
 pub use printing::drill;
 pub use printing::input_buffer;
 pub use printing::output_buffer;

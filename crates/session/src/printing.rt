@@ -15,7 +15,7 @@ ghost use Rattle.desk.specs.Desk.{lent};
 ghost use Rattle.session.specs.Session.{begun};
 ghost use Rattle.session.specs.Printed.{linesOf, tooLong, withRoom, printedWithin};
 
-const LONGEST: usize = 65536; // bytes of a file
+pub const LONGEST: usize = 65536; // bytes of a file
 
 const INPUT: usize = LONGEST + 1; // a longer file is known by one byte more
 

@@ -184,6 +184,11 @@ pub reset-sound : (d : Desk) → fittingOf d ≡ true → resetLeft d ≡ resetD
 unfolding resetLeft resetAnswer
 reset-sound d fit = rw fit
 
+-- so does one of fresh memory, which is all zeros
+pub reset-fresh : resetLeft (lent (replicate 1024 0) (replicate numberCount (pos 0))) ≡ resetDesk
+unfolding fittingOf
+reset-fresh = reset-sound _ refl
+
 -- and so what clearing both leaves is what a reset leaves
 pub reset-done : (d : Desk) → fittingOf d ≡ true → {ws : List ℕ} {ns : List ℤ} → ws ≡ replicate (length (d .words)) 0
     → ns ≡ replicate (length (d .numbers)) (pos 0) → (Accepted ≡ resetAnswer d) × (lent ws ns ≡ resetLeft d)

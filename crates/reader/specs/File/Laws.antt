@@ -8,9 +8,9 @@ use lib.ListN.{length, take, drop, length-map, drop-of-length-le, take-append-dr
 use lib.Seq.{slice, length-take-le, drop-append-le}
 use lib.Dec.{ltb, eqb}
 use borrow.Author.Tests.{lt-ltb, le-ltb, ltb-true, ltb-false}
-use Rattle.refusals.specs.declared.Refusal.the-variants.{Cut}
+use Rattle.refusals.specs.declared.Refusal.the-variants.{Cut, Kind, Length}
 use Rattle.reader.specs.declared.Record.{Record}
-use Rattle.reader.specs.declared.Record.the-variants.{Refused}
+use Rattle.reader.specs.declared.Record.the-variants.{Store, Sample, Refused}
 use Rattle.reader.specs.declared.Step.{Step}
 use Rattle.reader.specs.File.{wordAt, noKind, wholeAt, recordAt}
 use Rattle.reader.specs.File.{positionsWithin, positionsFrom, recordsFrom, recordsOf, spansFrom, spansOf}
@@ -38,6 +38,18 @@ cut-or-whole P s at cut whole = go (ltb (length s) (at + 2 + wordAt s at)) refl
     go : (b : Bool) → ltb (length s) (at + 2 + wordAt s at) ≡ b → P (recordAt s at)
     go true e = rw (cut-at s at (ltb-true _ _ e)) cut
     go false e = let h = ltb-false (length s) (at + 2 + wordAt s at) e in rw (whole-at s at h) (whole h)
+
+-- what holds of every store, of every sample and of the reader's refusals holds of the record at a position
+pub every-record : (P : Record → Type 0) → ((address value : ℕ) → P (Store address value)) → ((k raw : ℕ) → P (Sample k raw))
+    → P (Refused Cut) → P (Refused Kind) → P (Refused Length) → (s : List ℕ) (at : ℕ) → P (recordAt s at .item)
+every-record P store sample cut kind size s at = cut-or-whole (λ r. P (r .item)) s at cut (λ _. whole (at + 2) (wordAt s at))
+  where
+    pick : {x y : Record} (b : Bool) → P x → P y → P (cond b x y)
+    pick true p q = p
+    pick false p q = q
+
+    whole : (at n : ℕ) → P (wholeAt s at n)
+    whole at n = pick (noKind s at n) kind (pick (eqb (wordAt s at) 1) (pick (eqb n 6) (store _ _) size) (pick (eqb n 5) (sample _ _) size))
 
 -- a record ends behind its position and within the file; it takes two bytes at least, unless it ends the file
 pub next-bounds : (s : List ℕ) (at : ℕ) → at < length s

@@ -1,13 +1,8 @@
 -- `session::drill` meets its contract: each branch is the case of `printedWithin` that its tests pick. The desk is fresh from a reset.
 use native.Mathlib.Omega.{arith}
-use mathlib.Core.Path.{_≡_, refl, _∙_}
-use mathlib.Core.Bool.{true}
+use mathlib.Core.Path.{refl, _∙_}
 use borrow.Author.Tests.{lt-ltb, le-ltb}
-use lib.IntN.{pos}
-use lib.ListN.{replicate}
-use Rattle.carried.specs.Layout.{numberCount}
-use Rattle.desk.specs.Desk.{lent, fittingOf}
-use Rattle.desk.specs.Desk.Laws.{reset-sound}
+use Rattle.desk.specs.Desk.Laws.{reset-fresh}
 use Rattle.session.specs.Printed.{printedOf, printedWithin}
 use Rattle.session.proofs.Loops.{printed}
 use borrow.Author.Needs.{needs}
@@ -58,18 +53,13 @@ transcript-requires c κs = search needs
 same-length-2 : tie.Need-same-length-2
 same-length-2 c = search needs
 
--- the memory that is reset has its lengths
-zeros : fittingOf (lent (replicate 1024 0) (replicate numberCount (pos 0))) ≡ true
-unfolding fittingOf
-zeros = refl
-
 returns-3 : tie.Need-returns-3
 unfolding printedWithin printedOf
 returns-3 c =
     let t = c .before .before .before .before in
     let r = t .before .before .before .before .before .before in
     let e = r .before .before .before in
-    let w = rw (r .reset .ensures .1 ∙ reset-sound _ zeros) at (t .transcript .ensures .0) in
+    let w = rw (r .reset .ensures .1 ∙ reset-fresh) at (t .transcript .ensures .0) in
     rw (le-ltb 65536 _ (e .before .if1 .left), le-ltb _ _ (e .if2 .left))
     (printed w (omega (arith, t .transcript .ensures .1, e .if2 .left)))
 

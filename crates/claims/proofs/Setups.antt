@@ -1,0 +1,127 @@
+-- What is promised of a setup file, proved.
+use Prim.Native.Nat.{ℕ, zero, suc, _+_, _*_, _%_, _≤_, _<_}
+use native.Mathlib.Omega.{arith}
+use native.Mathlib.Nat.{add-zero, zero-add}
+use mathlib.Core.Path.{_≡_, refl, sym, ap, _∙_}
+use mathlib.Core.Bool.{Bool, true, false, cond, not, _&&_}
+use mathlib.Core.List.{List, [], _∷_, _++_, append-assoc, append-nil}
+use lib.Dec.{eqb}
+use lib.IntN.{ℤ, pos}
+use lib.ListN.{length, getD, replicate, length-append, length-replicate}
+use lib.Seq.{set-at, ext-getD}
+use borrow.Author.Tests.{eqb-true, le-ltb}
+use Rattle.carried.specs.Layout.{numberCount}
+use Rattle.reader.specs.declared.Record.the-variants.{Store}
+use Rattle.reader.specs.File.{recordsOf}
+use Rattle.desk.specs.Desk.{Desk, lent, engineWord, fittingOf, resetDesk}
+use Rattle.desk.specs.Desk.Laws.{reset-fits, reset-numbers}
+use Rattle.desk.specs.Lists.{answerTo, deskAfter}
+use Rattle.setups.specs.Setup.{handedOn, bytesFrom, setupOf, countFrom, storesFrom, rebuiltFrom}
+use Rattle.setups.specs.Setup.Laws.{bytes-length, setup-short, setup-read, rebuilt-length, rebuilt-at, rebuilt-bytes}
+use Rattle.session.specs.declared.running.Ended.the-variants.{Counts}
+use Rattle.session.specs.Session.{State, state, begun, after, runOf, endedOf, leftOf}
+use Rattle.session.specs.Printed.{linesOf, printedOf}
+use Rattle.claims.specs.Calls.{Reserved}
+use Rattle.claims.specs.Setups.{Reached, Agree, Rebuilt, HandedOn}
+use Rattle.claims.proofs.Calls.{fitting, reserved, free, stored}
+
+-- ---- the stores carried out
+
+-- where the words before an address are done and the others still 0, the stores of the others complete them
+abbrev Completes : List ℤ → ℕ → ℕ → ℕ → List ℕ → List ℕ → Type 0
+Completes ns m n a before ws =
+    runOf (state (before ++ replicate (length ws) 0) ns n m) (storesFrom a ws) ≡ state (before ++ rebuiltFrom a ws) ns (n + countFrom a ws) m
+
+module _ (ns : List ℤ) (fit : length ns ≡ numberCount) (m : ℕ) where
+  -- the next word is done, whether it was stored or is 0
+  next : (n a : ℕ) (before : List ℕ) (value : ℕ) (rest : List ℕ) → Completes ns m n (suc a) (before ++ (value ∷ [])) rest
+      → runOf (state (before ++ (value ∷ replicate (length rest) 0)) ns n m) (storesFrom (suc a) rest)
+      ≡ state (before ++ (value ∷ rebuiltFrom (suc a) rest)) ns (n + countFrom (suc a) rest) m
+  next n a before value rest done = rw (append-assoc before (value ∷ []) (replicate (length rest) 0), append-assoc before (value ∷ []) (rebuiltFrom (suc a) rest)) at done
+
+  -- a word that is stored
+  stored-next : (n a : ℕ) (before : List ℕ) (value : ℕ) (zeros : List ℕ) → length before ≡ a → length (before ++ (0 ∷ zeros)) ≡ 1024 → engineWord a ≡ false
+      → after (state (before ++ (0 ∷ zeros)) ns n m) (Store a value) ≡ state (before ++ (value ∷ zeros)) ns (n + 1) m
+  unfolding answerTo deskAfter
+  stored-next n a before value zeros here size reach =
+      let d = lent (before ++ (0 ∷ zeros)) ns in
+      let low : a ≤ 1023 = omega (arith, rw (length-append before (0 ∷ zeros)) at size) in
+      let s = stored d a (fitting d size fit) value low reach in
+      rw (s .0, s .1, set-at before 0 zeros value a here, add-zero m)
+
+  stores-run : (n a : ℕ) (before ws : List ℕ) → length before ≡ a → a + length ws ≡ 1024 → Completes ns m n a before ws
+  unfolding runOf storesFrom rebuiltFrom countFrom
+  stores-run n a before [] here size = rw (add-zero n)
+  stores-run n a before (value ∷ rest) here size =
+      go (engineWord a) refl (eqb value 0) refl (λ v n. next n a before v rest (stores-run n (suc a) (before ++ (v ∷ [])) rest (simp length-append (omega arith)) (omega arith)))
+    where
+      go : (reserved : Bool) → engineWord a ≡ reserved → (none : Bool) → eqb value 0 ≡ none
+          → ((v n : ℕ) → runOf (state (before ++ (v ∷ replicate (length rest) 0)) ns n m) (storesFrom (suc a) rest)
+          ≡ state (before ++ (v ∷ rebuiltFrom (suc a) rest)) ns (n + countFrom (suc a) rest) m)
+          → Completes ns m n a before (value ∷ rest)
+      go true e true f more = rw (e, f, zero-add (countFrom (suc a) rest)) (more 0 n)
+      go true e false f more = rw (e, f, zero-add (countFrom (suc a) rest)) (more 0 n)
+      go false e true f more = rw (e, f, zero-add (countFrom (suc a) rest), eqb-true value 0 f) (more 0 n)
+      go false e false f more =
+          let counted : n + (1 + countFrom (suc a) rest) ≡ n + 1 + countFrom (suc a) rest = omega arith in
+          rw (e, f, counted, stored-next n a before value (replicate (length rest) 0) here (simp (length-append, length-replicate) (omega arith)) e) (more value (n + 1))
+
+-- ---- the file
+
+-- read from reset
+setup-run : (ws : List ℕ) → length ws ≡ 1024
+    → runOf (begun resetDesk) (recordsOf (setupOf ws)) ≡ state (rebuiltFrom 0 ws) (resetDesk .numbers) (countFrom 0 ws) 0
+setup-run ws l =
+    let run = stores-run (replicate numberCount (pos 0)) (length-replicate numberCount (pos 0)) 0 0 0 [] ws refl (omega arith) in
+    rw (setup-read ws, reset-numbers) (rw (l, zero-add (countFrom 0 ws)) at run)
+
+-- the words of a list as they are rebuilt
+module _ (ws : List ℕ) (i : ℕ) where
+  rebuilt-word : Reached i → getD (rebuiltFrom 0 ws) i 0 ≡ getD ws i 0
+  rebuilt-word r = rebuilt-at 0 ws i ∙ rw (zero-add i, free i (r .1))
+
+  rebuilt-zero : i < 512 → Reserved (i % 32) → getD (rebuiltFrom 0 ws) i 0 ≡ 0
+  rebuilt-zero low r = rebuilt-at 0 ws i ∙ rw (zero-add i, reserved i low r)
+
+rebuilds : (ws : List ℕ) → length ws ≡ 1024
+    → (endedOf (setupOf ws) resetDesk ≡ Counts (countFrom 0 ws) 0) × Rebuilt ws (leftOf (setupOf ws) resetDesk)
+unfolding endedOf leftOf
+rebuilds ws l =
+    rw (reset-fits, setup-run ws l) (
+      refl,
+      record {
+        words = rebuilt-word ws;
+        elsewhere = rebuilt-zero ws;
+        size = rebuilt-length 0 ws ∙ l;
+        numbers = refl;
+      },
+    )
+
+-- where two memories agree, they are rebuilt alike
+agree-rebuilt : (ws vs : List ℕ) → length ws ≡ 1024 → length vs ≡ 1024 → Agree ws vs → rebuiltFrom 0 ws ≡ rebuiltFrom 0 vs
+agree-rebuilt ws vs l k same =
+    ext-getD 0 _ _ (rebuilt-length 0 ws ∙ l ∙ sym k ∙ sym (rebuilt-length 0 vs))
+    (λ i h. rebuilt-at 0 ws i ∙ rw (zero-add i) (go i (omega (arith, rebuilt-length 0 ws)) (engineWord i) refl) ∙ sym (rebuilt-at 0 vs i))
+  where
+    go : (i : ℕ) → i < 1024 → (b : Bool) → engineWord i ≡ b → cond b 0 (getD ws i 0) ≡ cond b 0 (getD vs i 0)
+    go i h true e = refl
+    go i h false e = same i (h, λ low r. let b : false ≡ true = sym e ∙ reserved i low r in let z : _≡_ {A = ℕ} 0 1 = cc in omega arith)
+
+same-only : (ws vs : List ℕ) → length ws ≡ 1024 → length vs ≡ 1024 → (setupOf ws ≡ setupOf vs → Agree ws vs) × (Agree ws vs → setupOf ws ≡ setupOf vs)
+same-only ws vs l k = (
+  λ e i r.
+      let run = rw (setup-run ws l, setup-run vs k) at (ap (λ (file : List ℕ). runOf (begun resetDesk) (recordsOf file)) e) in
+      let words = ap (λ (t : State). t .desk .words) run in
+      sym (rebuilt-word ws i r) ∙ ap (λ (x : List ℕ). getD x i 0) words ∙ rebuilt-word vs i r,
+  λ same. sym (rebuilt-bytes 0 ws) ∙ ap (bytesFrom 0) (agree-rebuilt ws vs l k same) ∙ rebuilt-bytes 0 vs,
+)
+
+long : (ws : List ℕ) → length ws ≡ 1024 → (length (setupOf ws) ≡ 8 * countFrom 0 ws) × (length (setupOf ws) ≤ 7680)
+    × (printedOf (setupOf ws) ≡ linesOf (begun resetDesk) (recordsOf (setupOf ws)))
+unfolding printedOf
+long ws l =
+    let short = setup-short ws l in
+    (bytes-length 0 ws, short, rw (le-ltb 65536 (length (setupOf ws)) (omega arith)))
+
+pub handed-on : HandedOn
+handed-on = record { rebuilds = rebuilds; only = same-only; long = long }

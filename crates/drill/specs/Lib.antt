@@ -1,2 +1,0 @@
--- What is told of a file's name.
-pub mod Names

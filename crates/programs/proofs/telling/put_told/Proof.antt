@@ -1,0 +1,44 @@
+-- `programs::telling::put_told` meets its contract: its three texts stand one behind the other.
+use native.Mathlib.Omega.{arith}
+use lib.ListN.{length-append}
+use Rattle.io.proofs.Counting.{counts}
+use Rattle.text.specs.Text.Laws.{written-append}
+use borrow.Author.Needs.{needs}
+use Rattle.programs.proofs.telling.put_told.Statement.{statement}
+use Rattle.programs.proofs.telling.put_told.Tie as tie
+
+put-text-requires : tie.Need-put-text-requires
+put-text-requires c κs = search needs
+
+slice-aggregate-put-text : tie.Need-slice-aggregate-put-text
+slice-aggregate-put-text c = search needs
+
+put-text-requires-2 : tie.Need-put-text-requires-2
+put-text-requires-2 c κs = search needs
+
+put-text-requires-3 : tie.Need-put-text-requires-3
+put-text-requires-3 c κs = search needs
+
+same-length : tie.Need-same-length
+same-length c = search needs
+
+returns : tie.Need-returns
+returns c =
+    let what = c .before .before in
+    let colon = what .before .before .before .before in
+    let program = colon .before .before .before .before .before in
+    let first = program .put-text .ensures in
+    let second = colon .put-text2 .ensures in
+    let third = what .put-text3 .ensures in
+    (written-append first (written-append second third), (omega (arith, first .place, second .place, third .place), counts _ _ (search needs)))
+
+pub put-told-spec : {M : Type 1} → statement M
+put-told-spec =
+    tie.close
+    (tie.spec
+    put-text-requires
+    slice-aggregate-put-text
+    put-text-requires-2
+    put-text-requires-3
+    same-length
+    returns)

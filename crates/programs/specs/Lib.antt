@@ -1,0 +1,3 @@
+-- What is told of a failure.
+pub mod Names
+pub mod Told

@@ -1,0 +1,2 @@
+-- What is written of a drill file.
+pub mod Written

@@ -1,0 +1,91 @@
+-- `setup::handing::hand_on` meets its contract: the desk is fresh from a reset, the run leaves its words, and the writer has room for them.
+use native.Mathlib.Omega.{arith}
+use mathlib.Core.Path.{_∙_}
+use Rattle.desk.specs.Desk.Laws.{reset-fresh}
+use Rattle.setup.proofs.Written.{too-long, written, never}
+use borrow.Author.Needs.{needs}
+use Rattle.setup.proofs.handing.hand_on.Statement.{statement}
+use Rattle.setup.proofs.handing.hand_on.Tie as tie
+
+returns : tie.Need-returns
+returns c = let a = c .before .before .before .args in too-long (a .file .now) (a .out .now) (c .if1 .taken)
+
+slice-aggregate-reset : tie.Need-slice-aggregate-reset
+slice-aggregate-reset c = search needs
+
+slice-aggregate-reset-2 : tie.Need-slice-aggregate-reset-2
+slice-aggregate-reset-2 c = search needs
+
+reset-requires : tie.Need-reset-requires
+reset-requires c κs = search needs
+
+slice-aggregate-run : tie.Need-slice-aggregate-run
+slice-aggregate-run c = search needs
+
+slice-aggregate-run-2 : tie.Need-slice-aggregate-run-2
+slice-aggregate-run-2 c = search needs
+
+slice-aggregate-run-3 : tie.Need-slice-aggregate-run-3
+slice-aggregate-run-3 c = search needs
+
+run-requires : tie.Need-run-requires
+run-requires c κs = search needs
+
+slice-aggregate-write-setup : tie.Need-slice-aggregate-write-setup
+slice-aggregate-write-setup c = search needs
+
+write-setup-requires : tie.Need-write-setup-requires
+write-setup-requires c κs = search needs
+
+enum-known-wrote : tie.Need-enum-known-wrote
+enum-known-wrote c = search needs
+
+enum-told : tie.Need-enum-told
+enum-told c = search needs
+
+same-length : tie.Need-same-length
+same-length c = search needs
+
+returns-2 : tie.Need-returns-2
+returns-2 c =
+    let w = c .before .before .before .before .before in
+    let r = w .before .before .before .before .before .before in
+    let f = r .before .before .before .before .before .before in
+    let t = f .before .before .before in
+    let a = t .before .before .before .args in
+    let left = rw (f .reset .ensures .1 ∙ reset-fresh) at (r .run .ensures .1 .0) in
+    written (a .file .now) (a .out .now) _ _ _ (t .if1 .left) left (search needs) (t .before .before .before .pre) (w .write-setup .ensures .0) (w .write-setup .ensures .1) _ (c .before .wrote .given .1)
+
+same-length-2 : tie.Need-same-length-2
+same-length-2 c = search needs
+
+returns-3 : tie.Need-returns-3
+returns-3 c =
+    let w = c .before .before .before .before in
+    let r = w .before .before .before .before .before .before in
+    let f = r .before .before .before .before .before .before in
+    let t = f .before .before .before in
+    let a = t .before .before .before .args in
+    let left = rw (f .reset .ensures .1 ∙ reset-fresh) at (r .run .ensures .1 .0) in
+    absurd (never (a .file .now) (a .out .now) _ _ _ (t .if1 .left) left (search needs) (t .before .before .before .pre) (w .write-setup .ensures .0) (w .write-setup .ensures .1) _ (c .enum-told .given .1))
+
+pub hand-on-spec : {M : Type 1} → statement M
+hand-on-spec =
+    tie.close
+    (tie.spec
+    returns
+    slice-aggregate-reset
+    slice-aggregate-reset-2
+    reset-requires
+    slice-aggregate-run
+    slice-aggregate-run-2
+    slice-aggregate-run-3
+    run-requires
+    slice-aggregate-write-setup
+    write-setup-requires
+    enum-known-wrote
+    enum-told
+    same-length
+    returns-2
+    same-length-2
+    returns-3)

@@ -1,0 +1,2 @@
+-- What the program `setup` writes.
+pub mod Handing

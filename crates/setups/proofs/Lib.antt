@@ -1,0 +1,2 @@
+-- Setup files computed of the definitions.
+pub mod Examples

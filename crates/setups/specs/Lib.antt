@@ -1,0 +1,2 @@
+-- The setup file of a desk's words, and what its writer answers and leaves.
+pub mod Setup
