@@ -1,6 +1,6 @@
 /* The engine in plain C, by the steps A1 to A11 and the profile's rules G1 to G12 of docs/MANUAL.md and apart from the Rattle
- * sources: one sample, a profile's forecast, stores, a drill file carried out and its lines. It keeps no state of its own.
- * Nothing is proved of it. */
+ * sources: one sample, a profile's forecast, stores, a drill file carried out and its lines, and words written as a drill file. It
+ * keeps no state of its own. Nothing is proved of it. */
 #include "plain_engine.h"
 
 #include <string.h>
@@ -18,6 +18,7 @@
 #define TABLE_WORDS (SEGMENTS * SEGMENT_WORDS)
 #define PARTS 10000 /* parts of a count, which a setpoint's fraction counts (G7) */
 #define LONGEST 65536
+#define STORE_BYTES 8 /* a store's record in a file: length, kind, address, value (L2, L3) */
 
 enum mode { MANUAL, AUTOMATIC, CASCADE };
 
@@ -341,9 +342,14 @@ static uint8_t forecast(const uint16_t *words, const struct carried *records, ui
     return 0;
 }
 
-static uint8_t store(uint16_t *words, uint64_t address, unsigned value) {
+/* W2: words 3, 4, 6 and 29 of the loops, which no store reaches */
+static int for_samples_alone(uint64_t address) {
     uint64_t at = address % LOOP_WORDS;
-    if (address >= WORDS || (address < LOOPS * LOOP_WORDS && (at == 3 || at == 4 || at == 6 || at == 29))) return 6;
+    return address < LOOPS * LOOP_WORDS && (at == 3 || at == 4 || at == 6 || at == 29);
+}
+
+static uint8_t store(uint16_t *words, uint64_t address, unsigned value) {
+    if (address >= WORDS || for_samples_alone(address)) return 6;
     words[address] = (uint16_t)value;
     return 0;
 }
@@ -361,6 +367,20 @@ static uint8_t carry_out(const uint8_t *at, size_t left, uint16_t *words, struct
     if (kind == 2) return length == 5 ? sample(words, records, at[4], pair(at + 5), line) : 3;
     if (kind == 1) return length == 6 ? store(words, pair(at + 4), pair(at + 6)) : 3;
     return 2;
+}
+
+/* L13: whether a setup has a store of this word */
+static int handed_on(const uint16_t *words, unsigned address) { return words[address] != 0 && !for_samples_alone(address); }
+
+static uint8_t *put_pair(uint8_t *to, unsigned value) {
+    *to++ = (uint8_t)value;
+    *to++ = (uint8_t)(value >> 8);
+    return to;
+}
+
+/* L3 */
+static uint8_t *put_store(uint8_t *to, unsigned address, unsigned value) {
+    return put_pair(put_pair(put_pair(put_pair(to, 6), 1), address), value);
 }
 
 static uint8_t *text(uint8_t *to, const char *from) {
@@ -458,5 +478,17 @@ uint8_t plain_print(const uint8_t *file, size_t file_length, uint8_t *out, size_
     }
     to = file_length > LONGEST ? text(to, "too long\n") : text(number(text(number(to, count), " records, "), refused), " refused\n");
     *length = (size_t)(to - out);
+    return 0;
+}
+
+uint8_t plain_setup(const uint16_t *words, size_t words_length, uint8_t *out, size_t out_length, size_t *length) {
+    if (words_length != WORDS) return 5;
+    size_t size = 0;
+    for (unsigned address = 0; address < WORDS; address++)
+        if (handed_on(words, address)) size += STORE_BYTES;
+    if (out_length < size) return 10;
+    for (unsigned address = 0; address < WORDS; address++)
+        if (handed_on(words, address)) out = put_store(out, address, words[address]);
+    *length = size;
     return 0;
 }

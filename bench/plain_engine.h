@@ -7,6 +7,10 @@
 #include <stddef.h>
 #include <stdint.h>
 
+#ifdef __cplusplus
+extern "C" {
+#endif
+
 uint8_t plain_reset(uint16_t *words, size_t words_length, int64_t *records, size_t records_length);
 
 uint8_t plain_store(uint16_t *words, size_t words_length, int64_t *records, size_t records_length, uint64_t address,
@@ -24,5 +28,11 @@ uint8_t plain_run(const uint8_t *file, size_t file_length, uint16_t *words, size
     size_t records_length, uint8_t *answers, size_t answers_length, size_t *count, size_t *refused);
 
 uint8_t plain_print(const uint8_t *file, size_t file_length, uint8_t *out, size_t out_length, size_t *length);
+
+uint8_t plain_setup(const uint16_t *words, size_t words_length, uint8_t *out, size_t out_length, size_t *length);
+
+#ifdef __cplusplus
+}
+#endif
 
 #endif

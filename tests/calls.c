@@ -1,5 +1,5 @@
-/* Every function of kexbardi.h called with good input and with each kind of bad input, in the common subset of
- * C99 and C++11; it links the archive alone:
+/* Every function of kexbardi.h, but kexbardi_setup, which tests/setup.c calls, with good input and with each kind of
+ * bad input, in the common subset of C99 and C++11; it links the archive alone:
  *   gcc -std=c99 -Itarget/kexbardi/include tests/calls.c target/kexbardi/lib/libkexbardi.a
  *   g++ -x c++ -std=c++11 -Itarget/kexbardi/include tests/calls.c -x none target/kexbardi/lib/libkexbardi.a
  * All lent memory lies between guard zones. After a refusal it must be what it was, byte for byte, zones

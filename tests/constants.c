@@ -972,7 +972,7 @@ static void bcd_in_a_loop(void) {
 
 /* ---- refusals */
 
-/* Q1 to Q6, G12: every call answers with it. */
+/* Q1 to Q6, Q11, Q12: every call answers with it. */
 static void accepted(void) {
     static const uint8_t file[] = {0x06, 0x00, 0x01, 0x00, 0x05, 0x00, 0xd0, 0x07};
     begin_loop_a("KEXBARDI_ACCEPTED");
@@ -985,6 +985,7 @@ static void accepted(void) {
     equals("run", kexbardi_run(file, 8, words, 1024, records, 208, answers, 64, &count, &refused), KEXBARDI_ACCEPTED);
     equals("its store", answers[0], KEXBARDI_ACCEPTED);
     equals("print", kexbardi_print(file, 8, out, 180, &text_length), KEXBARDI_ACCEPTED);
+    equals("setup", kexbardi_setup(words, 1024, out, 7680, &text_length), KEXBARDI_ACCEPTED);
 }
 
 struct row {
@@ -1037,8 +1038,31 @@ static void refused_memory(void) {
     equals("1,023 words", kexbardi_reset(words, 1023, records, 208), KEXBARDI_MEMORY);
     equals("1,023 words in plain numbers", kexbardi_reset(words, 1023, records, 208), 5);
     equals("no room", kexbardi_print(answers, 0, out, 0, &text_length), KEXBARDI_MEMORY);
+    equals("a setup of 1,023 words", kexbardi_setup(words, 1023, out, 7680, &text_length), KEXBARDI_MEMORY);
     records[0] = 3; /* there are modes 0, 1 and 2 */
     equals("a mode out of range", sample(1, 1000), KEXBARDI_MEMORY);
+}
+
+/* N10: loop A before its samples, words 0, 5, 7, 8, 9 and 25, is six records of eight bytes. */
+static void refused_room(void) {
+    begin_loop_a("KEXBARDI_ROOM");
+    equals("47 bytes", kexbardi_setup(words, 1024, out, 47, &text_length), KEXBARDI_ROOM);
+    equals("47 bytes in plain numbers", kexbardi_setup(words, 1024, out, 47, &text_length), 10);
+    equals("48 bytes", kexbardi_setup(words, 1024, out, 48, &text_length), 0);
+    equals("its length", (int64_t)text_length, 48);
+}
+
+/* ---- setups */
+
+/* Q12: this room is enough for the largest file, 1,024 words without 64, and a byte less is not. */
+static void setup_room(void) {
+    static const uint8_t last_record[] = {0x06, 0x00, 0x01, 0x00, 0xff, 0x03, 0xa5, 0xa5};
+    test = "KEXBARDI_SETUP_ROOM";
+    memset(words, 0xa5, sizeof words);
+    equals("a byte less", kexbardi_setup(words, 1024, out, KEXBARDI_SETUP_ROOM - 1, &text_length), 10);
+    equals("the room", kexbardi_setup(words, 1024, out, KEXBARDI_SETUP_ROOM, &text_length), 0);
+    equals("its length", (int64_t)text_length, 7680);
+    check("its last record", memcmp(out + 7672, last_record, sizeof last_record) == 0);
 }
 
 /* ---- prints */
@@ -1159,6 +1183,8 @@ int main(void) {
     refused_in_files();
     refused_calls();
     refused_memory();
+    refused_room();
+    setup_room();
     print_room();
     print_room_values();
     longest();

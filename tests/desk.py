@@ -1,8 +1,8 @@
 """A desk in Python, by ctypes alone: python3 tests/desk.py LIBRARY HEADER
 
-It loads the shared library, holds its version and its sizes to the header's, tries the refusals 4, 5 and 6, runs loop A, and
-then a profile beside its forecast. It prints what the program `drill` prints of examples/loop-a.drill, and fails where a call
-answers otherwise than the header says.
+It loads the shared library, holds its version and its sizes to the header's, tries the refusals 4, 5, 6 and 10, runs loop A and
+writes its setup file, and then runs a profile beside its forecast. It prints what the program `drill` prints of
+examples/loop-a.drill, and fails where a call answers otherwise than the header says.
 """
 
 import ctypes
@@ -19,6 +19,8 @@ Records = c_int64 * 208
 Line = c_uint16 * 4
 Fields = c_int64 * 13
 Samples = c_uint64 * 1
+File = c_uint8 * 7680
+Length = c_size_t * 1
 DESK = [ctypes.POINTER(c_uint16), c_size_t, ctypes.POINTER(c_int64), c_size_t]
 
 
@@ -35,8 +37,12 @@ store = function("kexbardi_store", c_uint8, *DESK, c_uint64, c_uint16)
 sample = function("kexbardi_sample", c_uint8, *DESK, c_uint64, c_uint64, ctypes.POINTER(c_uint16))
 record = function("kexbardi_record", c_uint8, ctypes.POINTER(c_int64), c_size_t, c_uint64, ctypes.POINTER(c_int64))
 forecast = function("kexbardi_forecast", c_uint8, *DESK, c_uint64, ctypes.POINTER(c_uint64))
+OUT = [ctypes.POINTER(c_uint8), c_size_t, ctypes.POINTER(c_size_t)]
+setup = function("kexbardi_setup", c_uint8, ctypes.POINTER(c_uint16), c_size_t, *OUT)
 
 words, records, line, fields, samples = Words(), Records(), Line(), Fields(), Samples(77)
+file, length = File(*[77] * 7680), Length(77)
+all_lent = (words, records, line, fields, samples, file, length)
 desk = (words, len(words), records, len(records))
 
 
@@ -47,15 +53,15 @@ def holds(what, found, expected):
 
 def refused(number, call, *arguments):
     """A refusal has its number, and leaves all lent memory as it was."""
-    before = [bytes(lent) for lent in (words, records, line, fields, samples)]
+    before = [bytes(lent) for lent in all_lent]
     numbers = [argument for argument in arguments if isinstance(argument, int)]
     holds(f"{call.__name__}, {numbers}", call(*arguments), number)
-    holds("memory after a refusal", [bytes(lent) for lent in (words, records, line, fields, samples)], before)
+    holds("memory after a refusal", [bytes(lent) for lent in all_lent], before)
 
 
 holds("the version", version_of(), defined["VERSION"])
-sizes = [len(words), len(records), len(line), len(fields)]
-holds("the header's sizes", [defined[name] for name in ("WORDS", "NUMBERS", "LINE_WORDS", "FIELDS")], sizes)
+sizes = [len(words), len(records), len(line), len(fields), len(file)]
+holds("the header's sizes", [defined[name] for name in ("WORDS", "NUMBERS", "LINE_WORDS", "FIELDS", "SETUP_ROOM")], sizes)
 for at in range(len(words)):
     words[at] = at
 for at in range(len(records)):
@@ -96,6 +102,14 @@ for number, (call, first, second) in enumerate(CALLS, 1):
 print(f"{len(CALLS)} records, {refusals} refused")
 holds("the record", record(records, len(records), 1, fields), 0)
 holds("a sampled loop in Automatic", (fields[0], fields[7]), (1, 1))
+
+# Its words as a drill file (L13): words 2, 5, 7, 8, 9 and 25, 48 bytes. What stands behind them stays.
+STORED = [(2, 1500), (5, 3100), (7, 0x0100), (8, 0x0200), (9, 0x1000), (25, 4095)]
+expected = b"".join(b"\6\0\1\0" + address.to_bytes(2, "little") + value.to_bytes(2, "little") for address, value in STORED)
+refused(5, setup, words, 1023, file, len(file), length)
+refused(10, setup, words, 1024, file, 47, length)
+holds("setup", (setup(words, len(words), file, len(file), length), length[0]), (0, 48))
+holds("the setup file", bytes(file), expected + bytes([77]) * 7632)
 
 # A profile of loop A, its table at 700: from 1,500 down to 1,490 by 3.00 a second and 0.1 minutes there. It takes 4 samples and
 # 6, and one more, for the next ramp has slope 0.

@@ -1,6 +1,7 @@
 -- The computed examples of the crates below, named here so that none of them can go unnoticed.
 use mathlib.Core.Path.{_≡_}
 use mathlib.Core.List.{[], _∷_, _++_, map}
+use lib.ListN.{length, replicate}
 use Rattle.numbers.specs.Roots.{rootOf}
 use Rattle.numbers.proofs.Examples as numbers
 use Rattle.carried.specs.Layout.{recordAt}
@@ -13,6 +14,8 @@ use Rattle.plain.specs.Plain.{begun}
 use Rattle.plain.proofs.Examples as plain
 use Rattle.desk.specs.Desk.{resetDesk}
 use Rattle.desk.proofs.Examples as desk
+use Rattle.setups.specs.Setup.{bytesFrom, setupOf, setupAnswer, setupLeft}
+use Rattle.setups.proofs.Examples as setups
 use Rattle.session.specs.Printed.{printedOf}
 use Rattle.session.proofs.Worked as worked
 
@@ -44,6 +47,19 @@ plain-lists = plain.computed
 -- a list of calls on a desk
 pub desk-list : desk.rows resetDesk (begun (recordAt (resetDesk .numbers) 9)) desk.mixed ≡ map desk.expected desk.mixed
 desk-list = desk.computed
+
+-- L13, Q12, X5: words as bytes, and the answers to a setup with the room behind each
+pub setups-computed : map (λ (c : setups.Case). bytesFrom (c .address) (c .words)) setups.cases ≡ map (λ (c : setups.Case). c .bytes) setups.cases
+setups-computed = setups.computed
+
+pub setups-answered : map (λ (c : setups.Call). setupAnswer (c .words) (length (c .out))) setups.calls ≡ map (λ (c : setups.Call). c .answer) setups.calls
+setups-answered = setups.answered
+
+pub setups-left : map (λ (c : setups.Call). setupLeft (c .words) (c .out)) setups.calls ≡ map (λ (c : setups.Call). c .left) setups.calls
+setups-left = setups.left
+
+pub setup-fullest : length (setupOf (replicate 1024 1)) ≡ 7680
+setup-fullest = setups.fullest
 
 -- X1: the worked loop's printed lines
 pub worked-lines : printedOf worked.file ≡ worked.text

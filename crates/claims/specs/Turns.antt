@@ -1,5 +1,6 @@
 -- A C program's turns on a desk (E1): it writes anything into the words, and then makes a call, perhaps with memory of the wrong length. It leaves the
--- numbers to the calls. The calls that only show something (`kexbardi_record`, `kexbardi_forecast`, `kexbardi_print`) change no desk, and are no turns.
+-- numbers to the calls. The calls that only show something (`kexbardi_record`, `kexbardi_forecast`, `kexbardi_print`, `kexbardi_setup`) change no
+-- desk, and are no turns.
 use Prim.Native.Nat.{ℕ}
 use mathlib.Core.Bool.{cond}
 use mathlib.Core.List.{List, [], _∷_, _++_}

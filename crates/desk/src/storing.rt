@@ -19,9 +19,20 @@ const LAST_ADDRESS: u64 = WORDS as u64 - 1;
 pub fn engine_word(address: u64) -> bool
     ensures { λ r. ⌜ r ≡ engineWord address ⌝ }
 {
+    if FIRST_FREE <= address {
+        return false;
+    }
     let offset = address as usize % LOOP_WORDS;
-    (address < FIRST_FREE)
-        & ((offset == PV) | (offset == BIAS) | (offset == STATUS) | (offset == PROFILE_FAULT))
+    if offset == PV {
+        return true;
+    }
+    if offset == BIAS {
+        return true;
+    }
+    if offset == STATUS {
+        return true;
+    }
+    offset == PROFILE_FAULT
 }
 
 // Q2. No record is looked at; the numbers are lent whole all the same, as to every call.

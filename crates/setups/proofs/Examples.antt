@@ -52,6 +52,11 @@ pub computed : map (λ (c : Case). bytesFrom (c .address) (c .words)) cases ≡ 
 unfolding bytesFrom
 computed = refl
 
+-- 7,680 bytes are not only enough: words without a 0 take them all
+pub fullest : length (setupOf (replicate 1024 1)) ≡ 7680
+unfolding bytesFrom
+fullest = refl
+
 -- ---- the worked loop (X5)
 
 -- the words that X1's file leaves of loop 1, up to word 25

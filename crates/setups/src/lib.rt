@@ -31,13 +31,6 @@ fn handed_on(address: usize, value: u16) -> bool
     !engine_word(address as u64)
 }
 
-// How many bytes of the file a word has.
-fn bytes_of(address: usize, value: u16) -> usize
-    ensures { λ r. ⌜ r ≡ length (bytesOf address value) ⌝ }
-{
-    if handed_on(address, value) { RECORD } else { 0 }
-}
-
 // How long the file is.
 fn file_length(words: &[u16]) -> usize
     requires { ⌜ length (now words) ≡ 1024 ⌝ }
@@ -46,7 +39,9 @@ fn file_length(words: &[u16]) -> usize
     let mut n = 0;
     let mut i = 0;
     while i < words.len() {
-        n += bytes_of(i, words[i]);
+        if handed_on(i, words[i]) {
+            n += RECORD;
+        }
         i += 1;
     }
     n

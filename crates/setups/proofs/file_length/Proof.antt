@@ -1,8 +1,9 @@
 -- `setups::file_length` meets its contract: with the bytes of the words that are left it would be the file's length. They become fewer.
 use Prim.Native.Nat.{_+_, _-_, _*_, _≤_, _<_}
 use native.Mathlib.Omega.{arith}
-use mathlib.Core.Path.{_≡_}
-use lib.ListN.{length, getD, drop, drop-of-length-le, length-append}
+use mathlib.Core.Path.{_≡_, sym, _∙_}
+use mathlib.Core.Logic.{⊎-elim}
+use lib.ListN.{length, getD, drop, length-append}
 use Rattle.setups.specs.Setup.{bytesOf, bytesFrom, setupOf}
 use Rattle.setups.specs.Setup.Laws.{bytes-few, bytes-none, bytes-step}
 use Rattle.setups.proofs.file_length.Statement.{statement}
@@ -17,21 +18,19 @@ abbrev μ-loop : tie.MeasureT-loop
 loop-holds : tie.Need-loop-holds Inv-loop μ-loop
 loop-holds c = (omega arith, omega arith, omega arith)
 
-mul-bytes-of : tie.Need-mul-bytes-of Inv-loop μ-loop
-mul-bytes-of c = omega arith
+mul-handed-on : tie.Need-mul-handed-on Inv-loop μ-loop
+mul-handed-on c = omega arith
 
-shared-slice-read-bytes-of : tie.Need-shared-slice-read-bytes-of Inv-loop μ-loop
-shared-slice-read-bytes-of c = omega arith
+shared-slice-read-handed-on : tie.Need-shared-slice-read-handed-on Inv-loop μ-loop
+shared-slice-read-handed-on c = omega arith
 
-bytes-of-requires : tie.Need-bytes-of-requires Inv-loop μ-loop
-bytes-of-requires c κs = tt
+handed-on-requires : tie.Need-handed-on-requires Inv-loop μ-loop
+handed-on-requires c κs = tt
 
--- a word has at most eight bytes
 add-n : tie.Need-add-n Inv-loop μ-loop
 add-n c =
-    let l = c .before .before .before .loop in
-    let words = c .before .before .before .before .before .args .words .now in
-    omega (arith, c .bytes-of .ensures, bytes-few (l .i) (getD words (l .i) 0), c .before .before .before .before .before .pre)
+    let l = c .before .before .before .before in
+    omega (arith, l .loop .inv .1, l .before .before .pre)
 
 add-i : tie.Need-add-i Inv-loop μ-loop
 add-i c = omega arith
@@ -39,13 +38,21 @@ add-i c = omega arith
 loop-less : tie.Need-loop-less Inv-loop μ-loop
 loop-less c = omega arith
 
+-- a turn adds the bytes of its word
+added : (c : tie.Joined1 Inv-loop μ-loop) → let l = c .before .before .before .before in
+    c .if1 .n ≡ l .loop .n + length (bytesOf (l .loop .i) (getD (l .before .before .args .words .now) (l .loop .i) 0))
+added c =
+    let test = sym (c .before .handed-on .ensures) in
+    ⊎-elim (λ w. rw (test ∙ w .0 .taken) (w .1)) (λ w. rw (test ∙ w .0 .left) (omega (arith, w .1))) (c .if1 .came)
+
 loop-again : tie.Need-loop-again Inv-loop μ-loop
 loop-again c =
-    let l = c .before .before .before .loop in
-    let words = c .before .before .before .before .before .args .words .now in
+    let l = c .before .before .before .before .loop in
+    let words = c .before .before .before .before .before .before .args .words .now in
+    let own = bytesOf (l .i) (getD words (l .i) 0) in
     let on : l .i < length words = omega arith in
-    let left = rw (bytes-step words (l .i) on, length-append (bytesOf (l .i) (getD words (l .i) 0)) (bytesFrom (l .i + 1) (drop (l .i + 1) words))) at (l .inv .2) in
-    (omega arith, omega (arith, c .bytes-of .ensures, bytes-few (l .i) (getD words (l .i) 0)), omega (arith, c .bytes-of .ensures, left))
+    let left = rw (bytes-step words (l .i) on, length-append own (bytesFrom (l .i + 1) (drop (l .i + 1) words))) at (l .inv .2) in
+    (omega arith, omega (arith, added c, bytes-few (l .i) (getD words (l .i) 0)), omega (arith, added c, left))
 
 returns : tie.Need-returns Inv-loop μ-loop
 returns c =
@@ -62,9 +69,9 @@ file-length-spec =
     Inv-loop
     μ-loop
     loop-holds
-    mul-bytes-of
-    shared-slice-read-bytes-of
-    bytes-of-requires
+    mul-handed-on
+    shared-slice-read-handed-on
+    handed-on-requires
     add-n
     add-i
     loop-less

@@ -8,7 +8,7 @@ use Rattle.setup.proofs.handing.hand_on.Statement.{statement}
 use Rattle.setup.proofs.handing.hand_on.Tie as tie
 
 returns : tie.Need-returns
-returns c = let a = c .before .before .before .args in too-long (a .file .now) (a .out .now) (c .if1 .taken)
+returns c = let a = c .before .before .before .args in too-long (a .file .now) (a .out .now) (omega (arith, c .if1 .taken))
 
 slice-aggregate-reset : tie.Need-slice-aggregate-reset
 slice-aggregate-reset c = search needs
@@ -54,7 +54,7 @@ returns-2 c =
     let t = f .before .before .before in
     let a = t .before .before .before .args in
     let left = rw (f .reset .ensures .1 ∙ reset-fresh) at (r .run .ensures .1 .0) in
-    written (a .file .now) (a .out .now) _ _ _ (t .if1 .left) left (search needs) (t .before .before .before .pre) (w .write-setup .ensures .0) (w .write-setup .ensures .1) _ (c .before .wrote .given .1)
+    written (a .file .now) (a .out .now) _ _ _ (omega (arith, t .if1 .left)) left (search needs) (t .before .before .before .pre) (w .write-setup .ensures .0) (w .write-setup .ensures .1) _ (c .before .wrote .given .1)
 
 same-length-2 : tie.Need-same-length-2
 same-length-2 c = search needs
@@ -67,7 +67,7 @@ returns-3 c =
     let t = f .before .before .before in
     let a = t .before .before .before .args in
     let left = rw (f .reset .ensures .1 ∙ reset-fresh) at (r .run .ensures .1 .0) in
-    absurd (never (a .file .now) (a .out .now) _ _ _ (t .if1 .left) left (search needs) (t .before .before .before .pre) (w .write-setup .ensures .0) (w .write-setup .ensures .1) _ (c .enum-told .given .1))
+    absurd (never (a .file .now) (a .out .now) _ _ _ (omega (arith, t .if1 .left)) left (search needs) (t .before .before .before .pre) (w .write-setup .ensures .0) (w .write-setup .ensures .1) _ (c .enum-told .given .1))
 
 pub hand-on-spec : {M : Type 1} → statement M
 hand-on-spec =
