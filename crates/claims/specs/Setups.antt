@@ -1,4 +1,4 @@
--- What is promised of a setup file (L13): read from reset it rebuilds the words, two memories have the same one only where they agree, and it is short.
+-- What is promised of a setup file (L13): read from reset it rebuilds the words, it is equal for equal words alone, and it is short.
 use Prim.Native.Nat.{ℕ, _*_, _%_, _≤_, _<_}
 use mathlib.Core.Path.{_≡_}
 use mathlib.Core.List.{List}
@@ -30,7 +30,7 @@ pub record HandedOn : Type 0 where
   -- read from reset the file is carried out whole, no record refused, and rebuilds the words
   pub rebuilds : (ws : List ℕ) → length ws ≡ 1024
       → (endedOf (setupOf ws) resetDesk ≡ Counts (countFrom 0 ws) 0) × Rebuilt ws (leftOf (setupOf ws) resetDesk)
-  -- two memories have the same file only where they agree on every such word, those that are 0 among them; and there they have
+  -- equal files are of words that agree wherever a store reaches, those that are 0 among them; and such words have equal files
   pub only : (ws vs : List ℕ) → length ws ≡ 1024 → length vs ≡ 1024 → (setupOf ws ≡ setupOf vs → Agree ws vs) × (Agree ws vs → setupOf ws ≡ setupOf vs)
   -- it has eight bytes for each word that is handed on, 7,680 at most: so `drill` prints it whole
   pub long : (ws : List ℕ) → length ws ≡ 1024 → (length (setupOf ws) ≡ 8 * countFrom 0 ws) × (length (setupOf ws) ≤ 7680)

@@ -2,7 +2,7 @@
 use Prim.Native.Nat.{ℕ, _≤_, _<_}
 use native.Mathlib.Omega.{arith}
 use mathlib.Core.Path.{_≡_, refl, ap, _∙_}
-use mathlib.Core.List.{List, []}
+use mathlib.Core.List.{List}
 use lib.IntN.{ℤ}
 use lib.ListN.{length}
 use lib.Seq.{sets, length-sets}
@@ -11,7 +11,7 @@ use Rattle.io.specs.Counts.{Counts}
 use Rattle.io.proofs.Counting.{counts}
 use Rattle.text.specs.Text.{Written}
 use Rattle.refusals.specs.declared.Refusal.{Refusal}
-use Rattle.desk.specs.Desk.{Desk, lent, resetDesk}
+use Rattle.desk.specs.Desk.{lent, resetDesk}
 use Rattle.setups.specs.declared.Wrote.{Wrote}
 use Rattle.setups.specs.declared.Wrote.the-variants.{Bytes, Refused}
 use Rattle.setups.specs.Setup.{setupOf, setupAnswer, setupLeft}
@@ -25,23 +25,30 @@ unfolding writtenOf
 too-long file out h = rw (lt-ltb 65536 (length file) h) (record { buffer = refl; place = refl }, counts 0 out (omega arith))
 
 -- of any other, the setup file of the words that it leaves
-module _ (file out words after : List ℕ) (numbers : List ℤ) {wrote : Wrote} (low : length file ≤ 65536) (left : lent words numbers ≡ leftOf file resetDesk)
-    (size : length words ≡ 1024) (room : 7680 ≤ length out) (answer : wrote ≡ setupAnswer words (length out)) (put : after ≡ setupLeft words out) where
-  file-there : writtenOf file ≡ setupOf words
-  unfolding writtenOf
-  file-there = rw (le-ltb 65536 (length file) low, ← left)
+pub record Handed (file out : List ℕ) (wrote : Wrote) (after : List ℕ) : Type 0 where
+  pub answer : wrote ≡ Bytes (length (writtenOf file))
+  pub left : after ≡ sets out 0 (writtenOf file)
+  pub room : length (writtenOf file) ≤ length out
 
-  enough : length (setupOf words) ≤ length out
-  enough = omega (arith, setup-short words size)
+file-there : (file words : List ℕ) (numbers : List ℤ) → length file ≤ 65536 → lent words numbers ≡ leftOf file resetDesk → writtenOf file ≡ setupOf words
+unfolding writtenOf
+file-there file words numbers low left = rw (le-ltb 65536 (length file) low, ← left)
 
+pub handed : (file out words after : List ℕ) (numbers : List ℤ) {wrote : Wrote} → length file ≤ 65536 → lent words numbers ≡ leftOf file resetDesk
+    → length words ≡ 1024 → 7680 ≤ length out → wrote ≡ setupAnswer words (length out) → after ≡ setupLeft words out → Handed file out wrote after
+handed file out words after numbers low left size room answer put =
+    let same = file-there file words numbers low left in
+    let enough : length (setupOf words) ≤ length out = omega (arith, setup-short words size) in
+    let fits = setup-fits words out size enough in
+    record { answer = rw same (answer ∙ fits .0); left = rw same (put ∙ fits .1); room = rw same enough }
+
+module _ (file out after : List ℕ) {wrote : Wrote} (h : Handed file out wrote after) where
   pub written : (n : ℕ) → wrote ≡ Bytes n → Written out 0 (writtenOf file) after n × Counts n after
   written n e =
-      let fits = setup-fits words out size enough in
-      let same : n ≡ length (setupOf words) = cc in
-      let whole = put ∙ fits .1 in
-      let long : length after ≡ length out = ap (λ (l : List ℕ). length l) whole ∙ length-sets out 0 (setupOf words) in
-      (rw file-there (record { buffer = whole; place = omega (arith, same) }), counts n after (omega (arith, enough)))
+      let same : n ≡ length (writtenOf file) = cc (h .answer) in
+      let long : length after ≡ length out = ap (λ (l : List ℕ). length l) (h .left) ∙ length-sets out 0 (writtenOf file) in
+      (record { buffer = h .left; place = omega (arith, same) }, counts n after (omega (arith, h .room)))
 
   -- the writer refuses nothing
   pub never : (why : Refusal) → wrote ≡ Refused why → ⊥
-  never why e = let fits = setup-fits words out size enough in let z : _≡_ {A = ℕ} 0 1 = cc in omega arith
+  never why e = let z : _≡_ {A = ℕ} 0 1 = cc (h .answer) in omega arith

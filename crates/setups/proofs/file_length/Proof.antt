@@ -3,9 +3,9 @@ use Prim.Native.Nat.{_+_, _-_, _*_, _≤_, _<_}
 use native.Mathlib.Omega.{arith}
 use mathlib.Core.Path.{_≡_, sym, _∙_}
 use mathlib.Core.Logic.{⊎-elim}
-use lib.ListN.{length, getD, drop, length-append}
+use lib.ListN.{length, getD, drop}
 use Rattle.setups.specs.Setup.{bytesOf, bytesFrom, setupOf}
-use Rattle.setups.specs.Setup.Laws.{bytes-few, bytes-none, bytes-step}
+use Rattle.setups.specs.Setup.Laws.{bytes-few, bytes-none, length-step}
 use Rattle.setups.proofs.file_length.Statement.{statement}
 use Rattle.setups.proofs.file_length.Tie as tie
 
@@ -49,10 +49,8 @@ loop-again : tie.Need-loop-again Inv-loop μ-loop
 loop-again c =
     let l = c .before .before .before .before .loop in
     let words = c .before .before .before .before .before .before .args .words .now in
-    let own = bytesOf (l .i) (getD words (l .i) 0) in
     let on : l .i < length words = omega arith in
-    let left = rw (bytes-step words (l .i) on, length-append own (bytesFrom (l .i + 1) (drop (l .i + 1) words))) at (l .inv .2) in
-    (omega arith, omega (arith, added c, bytes-few (l .i) (getD words (l .i) 0)), omega (arith, added c, left))
+    (omega arith, omega (arith, added c, bytes-few (l .i) (getD words (l .i) 0)), omega (arith, added c, length-step words (l .i) on, l .inv .2))
 
 returns : tie.Need-returns Inv-loop μ-loop
 returns c =

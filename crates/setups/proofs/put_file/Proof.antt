@@ -2,11 +2,11 @@
 use Prim.Native.Nat.{_+_, _-_, _*_, _≤_, _<_}
 use native.Mathlib.Omega.{arith}
 use mathlib.Core.Path.{_≡_, refl, _∙_}
-use lib.ListN.{length, getD, drop, length-append}
-use lib.Seq.{sets, length-sets}
+use lib.ListN.{length, getD, drop}
+use lib.Seq.{sets}
 use Rattle.text.specs.Text.Laws.{sets-append}
 use Rattle.setups.specs.Setup.{bytesOf, bytesFrom, setupOf}
-use Rattle.setups.specs.Setup.Laws.{bytes-none, bytes-step}
+use Rattle.setups.specs.Setup.Laws.{bytes-none, bytes-step, length-step}
 use Rattle.setups.proofs.put_file.Statement.{statement}
 use Rattle.setups.proofs.put_file.Tie as tie
 
@@ -33,8 +33,7 @@ put-bytes-requires c κs =
     let start = c .before .before .before .before .before .before in
     let words = start .args .words .now in
     let on : l .i < length words = omega arith in
-    let left = rw (bytes-step words (l .i) on, length-append (bytesOf (l .i) (getD words (l .i) 0)) (bytesFrom (l .i + 1) (drop (l .i + 1) words))) at (l .inv .2) in
-    (omega arith, omega (arith, left, start .pre))
+    (omega arith, omega (arith, length-step words (l .i) on, l .inv .2, start .pre))
 
 add-i : tie.Need-add-i Inv-loop μ-loop
 add-i c = omega arith
@@ -51,10 +50,9 @@ loop-again c =
     let own = bytesOf (l .i) (getD words (l .i) 0) in
     let rest = bytesFrom (l .i + 1) (drop (l .i + 1) words) in
     let on : l .i < length words = omega arith in
-    let step = bytes-step words (l .i) on in
-    let left = rw (step, length-append own rest) at (l .inv .2) in
     let e = put .ensures in
-    (omega arith, put .kept .0 ∙ l .inv .1, omega (arith, e .place, left), rw (e .buffer, e .place) (sets-append (l .out) (l .place) own rest ∙ rw step at (l .inv .3)))
+    let joined = sets-append (l .out) (l .place) own rest ∙ rw (bytes-step words (l .i) on) at (l .inv .3) in
+    (omega arith, put .kept .0 ∙ l .inv .1, omega (arith, e .place, length-step words (l .i) on, l .inv .2), rw (e .buffer, e .place) joined)
 
 same-length : tie.Need-same-length Inv-loop μ-loop
 same-length c = omega arith

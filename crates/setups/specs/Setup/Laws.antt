@@ -5,7 +5,7 @@ use native.Mathlib.Nat.{add-suc, add-zero, suc-add}
 use native.Mathlib.Numerals.{add-one}
 use mathlib.Core.Path.{_≡_, refl, sym, ap, _∙_}
 use mathlib.Core.Bool.{Bool, true, false, cond, not, _&&_}
-use mathlib.Core.List.{List, [], _∷_, _++_, append-assoc, append-nil}
+use mathlib.Core.List.{List, [], _∷_, _++_, append-assoc}
 use lib.Dec.{eqb}
 use lib.ListN.{length, getD, drop, length-append, drop-of-length-le}
 use lib.Seq.{sets, getD-append-add, drop-cons}
@@ -15,7 +15,6 @@ use Rattle.refusals.specs.declared.Answer.the-variants.{Accepted}
 use Rattle.refusals.specs.Refusals.{firstOf}
 use Rattle.reader.specs.declared.Record.{Record}
 use Rattle.reader.specs.declared.Record.the-variants.{Store}
-use Rattle.reader.specs.declared.Step.{Step}
 use Rattle.reader.specs.File.{wordAt, recordAt, recordsFrom, recordsOf}
 use Rattle.reader.specs.File.Laws.{whole-at, records-step, records-end}
 use Rattle.desk.specs.Desk.{engineWord}
@@ -32,6 +31,11 @@ promised file out e = (rw e, rw e)
 pub bytes-step : (words : List ℕ) (i : ℕ) → i < length words → bytesFrom i (drop i words) ≡ bytesOf i (getD words i 0) ++ bytesFrom (i + 1) (drop (i + 1) words)
 unfolding bytesFrom
 bytes-step words i h = rw (drop-cons words i 0 h, add-one i)
+
+-- and so of their lengths
+pub length-step : (words : List ℕ) (i : ℕ) → i < length words
+    → length (bytesFrom i (drop i words)) ≡ length (bytesOf i (getD words i 0)) + length (bytesFrom (i + 1) (drop (i + 1) words))
+length-step words i h = rw (bytes-step words i h) (length-append (bytesOf i (getD words i 0)) (bytesFrom (i + 1) (drop (i + 1) words)))
 
 -- none stand behind the last word
 pub bytes-none : (words : List ℕ) (i : ℕ) → length words ≤ i → bytesFrom i (drop i words) ≡ []

@@ -2,7 +2,7 @@
 use native.Mathlib.Omega.{arith}
 use mathlib.Core.Path.{_∙_}
 use Rattle.desk.specs.Desk.Laws.{reset-fresh}
-use Rattle.setup.proofs.Written.{too-long, written, never}
+use Rattle.setup.proofs.Written.{too-long, Handed, handed, written, never}
 use borrow.Author.Needs.{needs}
 use Rattle.setup.proofs.handing.hand_on.Statement.{statement}
 use Rattle.setup.proofs.handing.hand_on.Tie as tie
@@ -46,28 +46,26 @@ enum-told c = search needs
 same-length : tie.Need-same-length
 same-length c = search needs
 
+-- the writer's answer and the room behind it
+done : (w : tie.After-write-setup) → let a = w .before .before .before .before .before .before .before .before .before .before .before .before .before .before .before .before .before .before .args in
+    Handed (a .file .now) (a .out .now) (w .write-setup .result) (w .write-setup .last .1 .0)
+done w =
+    let run = w .before .before .before .before .before .before in
+    let fresh = run .before .before .before .before .before .before in
+    let test = fresh .before .before .before in
+    let start = test .before .before .before in
+    let left = rw (fresh .reset .ensures .1 ∙ reset-fresh) at (run .run .ensures .1 .0) in
+    handed (start .args .file .now) (start .args .out .now) _ _ _ (omega (arith, test .if1 .left)) left (search needs) (start .pre) (w .write-setup .ensures .0)
+    (w .write-setup .ensures .1)
+
 returns-2 : tie.Need-returns-2
-returns-2 c =
-    let w = c .before .before .before .before .before in
-    let r = w .before .before .before .before .before .before in
-    let f = r .before .before .before .before .before .before in
-    let t = f .before .before .before in
-    let a = t .before .before .before .args in
-    let left = rw (f .reset .ensures .1 ∙ reset-fresh) at (r .run .ensures .1 .0) in
-    written (a .file .now) (a .out .now) _ _ _ (omega (arith, t .if1 .left)) left (search needs) (t .before .before .before .pre) (w .write-setup .ensures .0) (w .write-setup .ensures .1) _ (c .before .wrote .given .1)
+returns-2 c = written _ _ _ (done (c .before .before .before .before .before)) _ (c .before .wrote .given .1)
 
 same-length-2 : tie.Need-same-length-2
 same-length-2 c = search needs
 
 returns-3 : tie.Need-returns-3
-returns-3 c =
-    let w = c .before .before .before .before in
-    let r = w .before .before .before .before .before .before in
-    let f = r .before .before .before .before .before .before in
-    let t = f .before .before .before in
-    let a = t .before .before .before .args in
-    let left = rw (f .reset .ensures .1 ∙ reset-fresh) at (r .run .ensures .1 .0) in
-    absurd (never (a .file .now) (a .out .now) _ _ _ (omega (arith, t .if1 .left)) left (search needs) (t .before .before .before .pre) (w .write-setup .ensures .0) (w .write-setup .ensures .1) _ (c .enum-told .given .1))
+returns-3 c = absurd (never _ _ _ (done (c .before .before .before .before)) _ (c .enum-told .given .1))
 
 pub hand-on-spec : {M : Type 1} → statement M
 hand-on-spec =
