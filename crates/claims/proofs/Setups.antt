@@ -16,8 +16,8 @@ use Rattle.reader.specs.File.{recordsOf}
 use Rattle.desk.specs.Desk.{Desk, lent, engineWord, fittingOf, resetDesk}
 use Rattle.desk.specs.Desk.Laws.{reset-fits, reset-numbers}
 use Rattle.desk.specs.Lists.{answerTo, deskAfter}
-use Rattle.setups.specs.Setup.{handedOn, bytesFrom, setupOf, countFrom, storesFrom, rebuiltFrom}
-use Rattle.setups.specs.Setup.Laws.{bytes-length, setup-short, setup-read, rebuilt-length, rebuilt-at, rebuilt-bytes}
+use Rattle.setups.specs.Setup.{bytesFrom, setupOf, countFrom}
+use Rattle.setups.specs.Setup.Laws.{storesFrom, rebuiltFrom, bytes-length, setup-short, setup-read, rebuilt-length, rebuilt-at, rebuilt-bytes}
 use Rattle.session.specs.declared.running.Ended.the-variants.{Counts}
 use Rattle.session.specs.Session.{State, state, begun, after, runOf, endedOf, leftOf}
 use Rattle.session.specs.Printed.{linesOf, printedOf}

@@ -9,8 +9,6 @@ use Rattle.refusals.specs.declared.Refusal.the-variants.{Memory, Room}
 use Rattle.refusals.specs.declared.Answer.{Answer}
 use Rattle.refusals.specs.declared.Answer.the-variants.{Accepted, Refused}
 use Rattle.refusals.specs.Refusals.{Case, _⇒_, firstOf}
-use Rattle.reader.specs.declared.Record.{Record}
-use Rattle.reader.specs.declared.Record.the-variants.{Store}
 use Rattle.desk.specs.Desk.{engineWord}
 use Rattle.setups.specs.declared.Wrote.{Wrote}
 use Rattle.setups.specs.declared.Wrote.the-variants.{Bytes}
@@ -66,19 +64,9 @@ filledBy (Refused why) file out = out
 unfoldable pub setupLeft : List ℕ → List ℕ → List ℕ
 setupLeft words out = filledBy (firstOf (setupCases words (length out))) (setupOf words) out
 
--- ---- what a setup file is, in records and words
+-- ---- its length
 
--- L13: how many words are handed on
+-- L13: how many of some words are handed on
 unfoldable pub countFrom : ℕ → List ℕ → ℕ
 countFrom address [] = 0
 countFrom address (value ∷ rest) = cond (handedOn address value) 1 0 + countFrom (suc address) rest
-
--- L13: the stores that their bytes are
-unfoldable pub storesFrom : ℕ → List ℕ → List Record
-storesFrom address [] = []
-storesFrom address (value ∷ rest) = let more = storesFrom (suc address) rest in cond (handedOn address value) (Store address value ∷ more) more
-
--- L13: the words that they rebuild: 0 in place of those that no store reaches
-unfoldable pub rebuiltFrom : ℕ → List ℕ → List ℕ
-rebuiltFrom address [] = []
-rebuiltFrom address (value ∷ rest) = cond (engineWord address) 0 value ∷ rebuiltFrom (suc address) rest

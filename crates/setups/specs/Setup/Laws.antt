@@ -19,7 +19,7 @@ use Rattle.reader.specs.File.{wordAt, recordAt, recordsFrom, recordsOf}
 use Rattle.reader.specs.File.Laws.{whole-at, records-step, records-end}
 use Rattle.desk.specs.Desk.{engineWord}
 use Rattle.setups.specs.declared.Wrote.the-variants.{Bytes}
-use Rattle.setups.specs.Setup.{storeBytes, handedOn, bytesOf, bytesFrom, setupOf, setupCases, wroteBy, setupAnswer, filledBy, setupLeft, countFrom, storesFrom, rebuiltFrom}
+use Rattle.setups.specs.Setup.{storeBytes, handedOn, bytesOf, bytesFrom, setupOf, setupCases, wroteBy, setupAnswer, filledBy, setupLeft, countFrom}
 
 -- the two promises of the call, for its answer a
 pub promised : (file out : List ℕ) {answer a : Answer} → answer ≡ a → (wroteBy a (length file) ≡ wroteBy answer (length file)) × (filledBy a file out ≡ filledBy answer file out)
@@ -100,6 +100,11 @@ setup-fits words out l room =
 
 -- ---- the file read
 
+-- the stores that the bytes of some words are
+unfoldable pub storesFrom : ℕ → List ℕ → List Record
+storesFrom address [] = []
+storesFrom address (value ∷ rest) = let more = storesFrom (suc address) rest in cond (handedOn address value) (Store address value ∷ more) more
+
 -- a word behind some bytes
 word-behind : (before l : List ℕ) (at j : ℕ) → at ≡ length before + j → wordAt (before ++ l) at ≡ wordAt l j
 word-behind before l at j e =
@@ -149,6 +154,11 @@ pub setup-read : (words : List ℕ) → recordsOf (setupOf words) ≡ storesFrom
 setup-read words = bytes-read [] 0 words
 
 -- ---- the words that they rebuild
+
+-- 0 in place of those that no store reaches
+unfoldable pub rebuiltFrom : ℕ → List ℕ → List ℕ
+rebuiltFrom address [] = []
+rebuiltFrom address (value ∷ rest) = cond (engineWord address) 0 value ∷ rebuiltFrom (suc address) rest
 
 pub rebuilt-length : (address : ℕ) (words : List ℕ) → length (rebuiltFrom address words) ≡ length words
 unfolding rebuiltFrom
