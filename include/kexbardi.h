@@ -349,11 +349,11 @@ uint8_t kexbardi_print(const uint8_t *file, size_t file_length, uint8_t *out, si
 
 /* The words written as a drill file that rebuilds them from reset (L13): a store for each word that is not 0, in the
  * order of their addresses, without words 3, 4, 6 and 29 of the loops. Requests and commands that wait are words like
- * any other; what the loops carry is not handed on.
+ * any other; what the loops carry is not handed on, so rebuilt from the file each loop is in Manual.
  * Answers 5 where words_length is not 1,024; 10 where out_length is below the file's length; nothing is written then,
  * `length` neither. Else 0: the file stands at the start of `out`, and `length` is its length; bytes behind it stay.
- * KEXBARDI_SETUP_ROOM bytes are always enough. The file of words that are all 0 is empty: its length is 0, and no room
- * is enough for it too. */
+ * KEXBARDI_SETUP_ROOM bytes are always enough. The file of words that are all 0 is empty: its length is 0, and a room of
+ * 0 bytes is enough for it. */
 uint8_t kexbardi_setup(const uint16_t *words, size_t words_length, uint8_t *out, size_t out_length, size_t *length);
 
 #ifdef __cplusplus

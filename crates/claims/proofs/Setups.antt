@@ -9,15 +9,17 @@ use lib.Dec.{eqb}
 use lib.IntN.{ℤ, pos}
 use lib.ListN.{length, getD, replicate, length-append, length-replicate}
 use lib.Seq.{set-at, ext-getD}
-use borrow.Author.Tests.{eqb-true, le-ltb}
+use borrow.Author.Tests.{eqb-true, ne-eqb, le-ltb}
 use Rattle.carried.specs.Layout.{numberCount}
+use Rattle.table.specs.Words.Laws.{and-true}
+use Rattle.reader.specs.declared.Record.{Record}
 use Rattle.reader.specs.declared.Record.the-variants.{Store}
 use Rattle.reader.specs.File.{recordsOf}
 use Rattle.desk.specs.Desk.{Desk, lent, engineWord, fittingOf, resetDesk}
 use Rattle.desk.specs.Desk.Laws.{reset-fits, reset-numbers}
 use Rattle.desk.specs.Lists.{answerTo, deskAfter}
-use Rattle.setups.specs.Setup.{bytesFrom, setupOf, countFrom}
-use Rattle.setups.specs.Setup.Laws.{storesFrom, rebuiltFrom, bytes-length, setup-short, setup-read, rebuilt-length, rebuilt-at, rebuilt-bytes}
+use Rattle.setups.specs.Setup.{handedOn, bytesFrom, setupOf, storesFrom}
+use Rattle.setups.specs.Setup.Laws.{rebuiltFrom, bytes-length, setup-short, setup-read, rebuilt-length, rebuilt-at, rebuilt-bytes}
 use Rattle.session.specs.declared.running.Ended.the-variants.{Counts}
 use Rattle.session.specs.Session.{State, state, begun, after, runOf, endedOf, leftOf}
 use Rattle.session.specs.Printed.{linesOf, printedOf}
@@ -30,13 +32,13 @@ use Rattle.claims.proofs.Calls.{fitting, reserved, free, stored}
 -- where the words before an address are done and the others still 0, the stores of the others complete them
 abbrev Completes : List ℤ → ℕ → ℕ → ℕ → List ℕ → List ℕ → Type 0
 Completes ns m n a before ws =
-    runOf (state (before ++ replicate (length ws) 0) ns n m) (storesFrom a ws) ≡ state (before ++ rebuiltFrom a ws) ns (n + countFrom a ws) m
+    runOf (state (before ++ replicate (length ws) 0) ns n m) (storesFrom a ws) ≡ state (before ++ rebuiltFrom a ws) ns (n + length (storesFrom a ws)) m
 
 module _ (ns : List ℤ) (fit : length ns ≡ numberCount) (m : ℕ) where
   -- the next word is done, whether it was stored or is 0
   next : (n a : ℕ) (before : List ℕ) (value : ℕ) (rest : List ℕ) → Completes ns m n (suc a) (before ++ (value ∷ [])) rest
       → runOf (state (before ++ (value ∷ replicate (length rest) 0)) ns n m) (storesFrom (suc a) rest)
-      ≡ state (before ++ (value ∷ rebuiltFrom (suc a) rest)) ns (n + countFrom (suc a) rest) m
+      ≡ state (before ++ (value ∷ rebuiltFrom (suc a) rest)) ns (n + length (storesFrom (suc a) rest)) m
   next n a before value rest done = rw (append-assoc before (value ∷ []) (replicate (length rest) 0), append-assoc before (value ∷ []) (rebuiltFrom (suc a) rest)) at done
 
   -- a word that is stored
@@ -50,30 +52,42 @@ module _ (ns : List ℤ) (fit : length ns ≡ numberCount) (m : ℕ) where
       rw (s .0, s .1, set-at before 0 zeros value a here, add-zero m)
 
   stores-run : (n a : ℕ) (before ws : List ℕ) → length before ≡ a → a + length ws ≡ 1024 → Completes ns m n a before ws
-  unfolding runOf storesFrom rebuiltFrom countFrom
+  unfolding runOf storesFrom rebuiltFrom
   stores-run n a before [] here size = rw (add-zero n)
   stores-run n a before (value ∷ rest) here size =
       go (engineWord a) refl (eqb value 0) refl (λ v n. next n a before v rest (stores-run n (suc a) (before ++ (v ∷ [])) rest (simp length-append (omega arith)) (omega arith)))
     where
       go : (reserved : Bool) → engineWord a ≡ reserved → (none : Bool) → eqb value 0 ≡ none
           → ((v n : ℕ) → runOf (state (before ++ (v ∷ replicate (length rest) 0)) ns n m) (storesFrom (suc a) rest)
-          ≡ state (before ++ (v ∷ rebuiltFrom (suc a) rest)) ns (n + countFrom (suc a) rest) m)
+          ≡ state (before ++ (v ∷ rebuiltFrom (suc a) rest)) ns (n + length (storesFrom (suc a) rest)) m)
           → Completes ns m n a before (value ∷ rest)
-      go true e true f more = rw (e, f, zero-add (countFrom (suc a) rest)) (more 0 n)
-      go true e false f more = rw (e, f, zero-add (countFrom (suc a) rest)) (more 0 n)
-      go false e true f more = rw (e, f, zero-add (countFrom (suc a) rest), eqb-true value 0 f) (more 0 n)
+      go true e true f more = rw (e, f) (more 0 n)
+      go true e false f more = rw (e, f) (more 0 n)
+      go false e true f more = rw (e, f, eqb-true value 0 f) (more 0 n)
       go false e false f more =
-          let counted : n + (1 + countFrom (suc a) rest) ≡ n + 1 + countFrom (suc a) rest = omega arith in
+          let counted : n + suc (length (storesFrom (suc a) rest)) ≡ n + 1 + length (storesFrom (suc a) rest) = omega arith in
           rw (e, f, counted, stored-next n a before value (replicate (length rest) 0) here (simp (length-append, length-replicate) (omega arith)) e) (more value (n + 1))
 
 -- ---- the file
 
+false-true : false ≡ true → ⊥
+false-true e = let z : _≡_ {A = ℕ} 0 1 = cc in omega arith
+
+-- which words are handed on
+which : (address value : ℕ) → address < 1024 → (handedOn address value ≡ true → Reached address × (value ≡ 0 → ⊥)) × (Reached address → (value ≡ 0 → ⊥) → handedOn address value ≡ true)
+which address value low = (
+  λ e.
+      let p = and-true (not (eqb value 0)) (not (engineWord address)) e in
+      ((low, λ l r. false-true (rw (reserved address l r) at (p .1))), λ z. false-true (rw z at (p .0))),
+  λ r some. rw (ne-eqb value 0 some, free address (r .1)),
+)
+
 -- read from reset
 setup-run : (ws : List ℕ) → length ws ≡ 1024
-    → runOf (begun resetDesk) (recordsOf (setupOf ws)) ≡ state (rebuiltFrom 0 ws) (resetDesk .numbers) (countFrom 0 ws) 0
+    → runOf (begun resetDesk) (recordsOf (setupOf ws)) ≡ state (rebuiltFrom 0 ws) (resetDesk .numbers) (length (storesFrom 0 ws)) 0
 setup-run ws l =
     let run = stores-run (replicate numberCount (pos 0)) (length-replicate numberCount (pos 0)) 0 0 0 [] ws refl (omega arith) in
-    rw (setup-read ws, reset-numbers) (rw (l, zero-add (countFrom 0 ws)) at run)
+    rw (setup-read ws, reset-numbers) (rw (l, zero-add (length (storesFrom 0 ws))) at run)
 
 -- the words of a list as they are rebuilt
 module _ (ws : List ℕ) (i : ℕ) where
@@ -84,11 +98,11 @@ module _ (ws : List ℕ) (i : ℕ) where
   rebuilt-zero low r = rebuilt-at 0 ws i ∙ rw (zero-add i, reserved i low r)
 
 rebuilds : (ws : List ℕ) → length ws ≡ 1024
-    → (endedOf (setupOf ws) resetDesk ≡ Counts (countFrom 0 ws) 0) × Rebuilt ws (leftOf (setupOf ws) resetDesk)
+    → (endedOf (setupOf ws) resetDesk ≡ Counts (length (recordsOf (setupOf ws))) 0) × Rebuilt ws (leftOf (setupOf ws) resetDesk)
 unfolding endedOf leftOf
 rebuilds ws l =
     rw (reset-fits, setup-run ws l) (
-      refl,
+      ap (λ (xs : List Record). Counts (length xs) 0) (sym (setup-read ws)),
       record {
         words = rebuilt-word ws;
         elsewhere = rebuilt-zero ws;
@@ -105,7 +119,7 @@ agree-rebuilt ws vs l k same =
   where
     go : (i : ℕ) → i < 1024 → (b : Bool) → engineWord i ≡ b → cond b 0 (getD ws i 0) ≡ cond b 0 (getD vs i 0)
     go i h true e = refl
-    go i h false e = same i (h, λ low r. let b : false ≡ true = sym e ∙ reserved i low r in let z : _≡_ {A = ℕ} 0 1 = cc in omega arith)
+    go i h false e = same i (h, λ low r. false-true (sym e ∙ reserved i low r))
 
 same-only : (ws vs : List ℕ) → length ws ≡ 1024 → length vs ≡ 1024 → (setupOf ws ≡ setupOf vs → Agree ws vs) × (Agree ws vs → setupOf ws ≡ setupOf vs)
 same-only ws vs l k = (
@@ -116,12 +130,21 @@ same-only ws vs l k = (
   λ same. sym (rebuilt-bytes 0 ws) ∙ ap (bytesFrom 0) (agree-rebuilt ws vs l k same) ∙ rebuilt-bytes 0 vs,
 )
 
-long : (ws : List ℕ) → length ws ≡ 1024 → (length (setupOf ws) ≡ 8 * countFrom 0 ws) × (length (setupOf ws) ≤ 7680)
+long : (ws : List ℕ) → length ws ≡ 1024 → (length (setupOf ws) ≡ 8 * length (recordsOf (setupOf ws))) × (length (setupOf ws) ≤ 7680)
     × (printedOf (setupOf ws) ≡ linesOf (begun resetDesk) (recordsOf (setupOf ws)))
 unfolding printedOf
 long ws l =
     let short = setup-short ws l in
-    (bytes-length 0 ws, short, rw (le-ltb 65536 (length (setupOf ws)) (omega arith)))
+    (rw (setup-read ws) (bytes-length 0 ws), short, rw (le-ltb 65536 (length (setupOf ws)) (omega arith)))
 
 pub handed-on : HandedOn
-handed-on = record { rebuilds = rebuilds; only = same-only; long = long }
+unfolding storesFrom
+handed-on = record {
+  which = which;
+  records = setup-read;
+  no-store = λ address. refl;
+  stores = λ address value rest. refl;
+  rebuilds = rebuilds;
+  only = same-only;
+  long = long;
+}

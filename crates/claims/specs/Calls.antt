@@ -49,7 +49,7 @@ pub record Called : Type 0 where
   -- N5: the lengths are 1,024 words and the records' numbers
   pub lengths : (d : Desk) → (length (d .words) ≡ 1024 → length (d .numbers) ≡ numberCount → fittingOf d ≡ true)
       × (fittingOf d ≡ true → (length (d .words) ≡ 1024) × (length (d .numbers) ≡ numberCount))
-  -- every answer is 0, which is an acceptance, or a number of N1 to N9; 5 on memory of wrong lengths; a sample's that of the first rule that holds
+  -- every answer to a reset, a store or a sample is 0, which is an acceptance, or a number of N1 to N9; 5 on memory of wrong lengths; a sample's that of the first rule that holds
   pub answers : (d : Desk) (call : Call) → (numberOf (answerTo d call) ≤ 9) × (fittingOf d ≡ false → numberOf (answerTo d call) ≡ 5)
   pub zero : (a : Answer) → numberOf a ≡ 0 → a ≡ Accepted
   pub rows : (d : Desk) (k raw : ℕ) → fittingOf d ≡ true → Rows d k raw

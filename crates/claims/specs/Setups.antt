@@ -1,11 +1,13 @@
 -- What is promised of a setup file (L13): read from reset it rebuilds the words, it is equal for equal words alone, and it is short.
-use Prim.Native.Nat.{ℕ, _*_, _%_, _≤_, _<_}
+use Prim.Native.Nat.{ℕ, suc, _*_, _%_, _≤_, _<_}
 use mathlib.Core.Path.{_≡_}
-use mathlib.Core.List.{List}
+use mathlib.Core.Bool.{true, cond}
+use mathlib.Core.List.{List, [], _∷_}
 use lib.ListN.{length, getD}
+use Rattle.reader.specs.declared.Record.the-variants.{Store}
 use Rattle.reader.specs.File.{recordsOf}
 use Rattle.desk.specs.Desk.{Desk, resetDesk}
-use Rattle.setups.specs.Setup.{setupOf, countFrom}
+use Rattle.setups.specs.Setup.{handedOn, setupOf, storesFrom}
 use Rattle.session.specs.declared.running.Ended.the-variants.{Counts}
 use Rattle.session.specs.Session.{begun, endedOf, leftOf}
 use Rattle.session.specs.Printed.{linesOf, printedOf}
@@ -27,11 +29,17 @@ pub record Rebuilt (ws : List ℕ) (d : Desk) : Type 0 where
   pub numbers : d .numbers ≡ resetDesk .numbers
 
 pub record HandedOn : Type 0 where
-  -- read from reset the file is carried out whole, no record refused, and rebuilds the words
+  -- a word is handed on where a store reaches it and it is not 0; the file is the stores of these in the order of their addresses, and nothing else
+  pub which : (address value : ℕ) → address < 1024 → (handedOn address value ≡ true → Reached address × (value ≡ 0 → ⊥)) × (Reached address → (value ≡ 0 → ⊥) → handedOn address value ≡ true)
+  pub records : (ws : List ℕ) → recordsOf (setupOf ws) ≡ storesFrom 0 ws
+  pub no-store : (address : ℕ) → storesFrom address [] ≡ []
+  pub stores : (address value : ℕ) (rest : List ℕ) → let more = storesFrom (suc address) rest in
+      storesFrom address (value ∷ rest) ≡ cond (handedOn address value) (Store address value ∷ more) more
+  -- read from reset it is carried out whole, no record refused, and rebuilds the words
   pub rebuilds : (ws : List ℕ) → length ws ≡ 1024
-      → (endedOf (setupOf ws) resetDesk ≡ Counts (countFrom 0 ws) 0) × Rebuilt ws (leftOf (setupOf ws) resetDesk)
+      → (endedOf (setupOf ws) resetDesk ≡ Counts (length (recordsOf (setupOf ws))) 0) × Rebuilt ws (leftOf (setupOf ws) resetDesk)
   -- equal files are of words that agree wherever a store reaches, those that are 0 among them; and such words have equal files
   pub only : (ws vs : List ℕ) → length ws ≡ 1024 → length vs ≡ 1024 → (setupOf ws ≡ setupOf vs → Agree ws vs) × (Agree ws vs → setupOf ws ≡ setupOf vs)
   -- it has eight bytes for each word that is handed on, 7,680 at most: so `drill` prints it whole
-  pub long : (ws : List ℕ) → length ws ≡ 1024 → (length (setupOf ws) ≡ 8 * countFrom 0 ws) × (length (setupOf ws) ≤ 7680)
+  pub long : (ws : List ℕ) → length ws ≡ 1024 → (length (setupOf ws) ≡ 8 * length (recordsOf (setupOf ws))) × (length (setupOf ws) ≤ 7680)
       × (printedOf (setupOf ws) ≡ linesOf (begun resetDesk) (recordsOf (setupOf ws)))

@@ -82,7 +82,7 @@ pub record Call : Type 0 where
   pub answer : Wrote
   pub left : List ℕ
 
--- room for the file and two bytes, for the file alone, and for one byte less; no words at all; a word too few, and a word too many in too little room
+-- room for the file and two bytes, for the file alone, and for one byte less; words that are all 0, in no room; a word too few, and a word too many in too little room
 abbrev pub calls : List Call
 calls =
     record { words = desk; out = replicate 50 0xEE; answer = Bytes 48; left = file ++ (0xEE ∷ 0xEE ∷ []) }

@@ -1,5 +1,5 @@
 -- The setup file of a desk's words (L13), and what its writer answers and leaves (Q12).
-use Prim.Native.Nat.{ℕ, suc, _+_, _/_, _%_}
+use Prim.Native.Nat.{ℕ, suc, _/_, _%_}
 use mathlib.Core.Bool.{Bool, cond, not, _&&_}
 use mathlib.Core.List.{List, [], _∷_, _++_}
 use lib.Dec.{ltb, eqb}
@@ -9,6 +9,8 @@ use Rattle.refusals.specs.declared.Refusal.the-variants.{Memory, Room}
 use Rattle.refusals.specs.declared.Answer.{Answer}
 use Rattle.refusals.specs.declared.Answer.the-variants.{Accepted, Refused}
 use Rattle.refusals.specs.Refusals.{Case, _⇒_, firstOf}
+use Rattle.reader.specs.declared.Record.{Record}
+use Rattle.reader.specs.declared.Record.the-variants.{Store}
 use Rattle.desk.specs.Desk.{engineWord}
 use Rattle.setups.specs.declared.Wrote.{Wrote}
 use Rattle.setups.specs.declared.Wrote.the-variants.{Bytes}
@@ -64,9 +66,9 @@ filledBy (Refused why) file out = out
 unfoldable pub setupLeft : List ℕ → List ℕ → List ℕ
 setupLeft words out = filledBy (firstOf (setupCases words (length out))) (setupOf words) out
 
--- ---- its length
+-- ---- the records that it is
 
--- L13: how many of some words are handed on
-unfoldable pub countFrom : ℕ → List ℕ → ℕ
-countFrom address [] = 0
-countFrom address (value ∷ rest) = cond (handedOn address value) 1 0 + countFrom (suc address) rest
+-- L13: the stores of some words, of which the first stands at an address
+unfoldable pub storesFrom : ℕ → List ℕ → List Record
+storesFrom address [] = []
+storesFrom address (value ∷ rest) = let more = storesFrom (suc address) rest in cond (handedOn address value) (Store address value ∷ more) more

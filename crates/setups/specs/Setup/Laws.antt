@@ -19,7 +19,7 @@ use Rattle.reader.specs.File.{wordAt, recordAt, recordsFrom, recordsOf}
 use Rattle.reader.specs.File.Laws.{whole-at, records-step, records-end}
 use Rattle.desk.specs.Desk.{engineWord}
 use Rattle.setups.specs.declared.Wrote.the-variants.{Bytes}
-use Rattle.setups.specs.Setup.{storeBytes, handedOn, bytesOf, bytesFrom, setupOf, setupCases, wroteBy, setupAnswer, filledBy, setupLeft, countFrom}
+use Rattle.setups.specs.Setup.{storeBytes, handedOn, bytesOf, bytesFrom, setupOf, setupCases, wroteBy, setupAnswer, filledBy, setupLeft, storesFrom}
 
 -- the two promises of the call, for its answer a
 pub promised : (file out : List ℕ) {answer a : Answer} → answer ≡ a → (wroteBy a (length file) ≡ wroteBy answer (length file)) × (filledBy a file out ≡ filledBy answer file out)
@@ -52,42 +52,48 @@ bytes-few address value = go (handedOn address value)
     go true = omega arith
     go false = omega arith
 
--- eight bytes for each word that is handed on
-pub bytes-length : (address : ℕ) (words : List ℕ) → length (bytesFrom address words) ≡ 8 * countFrom address words
-unfolding bytesFrom countFrom
+-- eight bytes for each store
+pub bytes-length : (address : ℕ) (words : List ℕ) → length (bytesFrom address words) ≡ 8 * length (storesFrom address words)
+unfolding bytesFrom storesFrom
 bytes-length address [] = refl
 bytes-length address (value ∷ rest) = simp length-append (go (handedOn address value) (bytes-length (suc address) rest))
   where
-    go : (b : Bool) → length (bytesFrom (suc address) rest) ≡ 8 * countFrom (suc address) rest
-        → length (cond b (storeBytes address value) []) + length (bytesFrom (suc address) rest) ≡ 8 * (cond b 1 0 + countFrom (suc address) rest)
-    go true more = omega (arith, more)
-    go false more = omega (arith, more)
+    more : List Record
+    more = storesFrom (suc address) rest
+
+    go : (b : Bool) → length (bytesFrom (suc address) rest) ≡ 8 * length more
+        → length (cond b (storeBytes address value) []) + length (bytesFrom (suc address) rest) ≡ 8 * length (cond b (Store address value ∷ more) more)
+    go true ih = omega (arith, ih)
+    go false ih = omega (arith, ih)
 
 -- how many of n addresses a store reaches
 reached : ℕ → ℕ → ℕ
 reached address zero = 0
 reached address (suc n) = cond (engineWord address) 0 1 + reached (suc address) n
 
-count-reached : (address : ℕ) (words : List ℕ) → countFrom address words ≤ reached address (length words)
-unfolding countFrom reached
-count-reached address [] = omega arith
-count-reached address (value ∷ rest) = go (eqb value 0) (engineWord address) (count-reached (suc address) rest)
+stores-reached : (address : ℕ) (words : List ℕ) → length (storesFrom address words) ≤ reached address (length words)
+unfolding storesFrom reached
+stores-reached address [] = omega arith
+stores-reached address (value ∷ rest) = go (eqb value 0) (engineWord address) (stores-reached (suc address) rest)
   where
-    go : (none reserved : Bool) → countFrom (suc address) rest ≤ reached (suc address) (length rest)
-        → cond (not none && not reserved) 1 0 + countFrom (suc address) rest ≤ cond reserved 0 1 + reached (suc address) (length rest)
-    go true true more = omega (arith, more)
-    go true false more = omega (arith, more)
-    go false true more = omega (arith, more)
-    go false false more = omega (arith, more)
+    more : List Record
+    more = storesFrom (suc address) rest
+
+    go : (none reserved : Bool) → length more ≤ reached (suc address) (length rest)
+        → length (cond (not none && not reserved) (Store address value ∷ more) more) ≤ cond reserved 0 1 + reached (suc address) (length rest)
+    go true true ih = omega (arith, ih)
+    go true false ih = omega (arith, ih)
+    go false true ih = omega (arith, ih)
+    go false false ih = omega (arith, ih)
 
 -- of 1,024 words at most 960 are handed on
-pub count-most : (words : List ℕ) → length words ≡ 1024 → countFrom 0 words ≤ 960
+pub stores-most : (words : List ℕ) → length words ≡ 1024 → length (storesFrom 0 words) ≤ 960
 unfolding reached
-count-most words l = let most : reached 0 1024 ≡ 960 = refl in omega (arith, rw l at (count-reached 0 words))
+stores-most words l = let most : reached 0 1024 ≡ 960 = refl in omega (arith, rw l at (stores-reached 0 words))
 
 -- so 7,680 bytes are enough for any
 pub setup-short : (words : List ℕ) → length words ≡ 1024 → length (setupOf words) ≤ 7680
-setup-short words l = omega (arith, bytes-length 0 words, count-most words l)
+setup-short words l = omega (arith, bytes-length 0 words, stores-most words l)
 
 -- ---- the call where it is accepted
 
@@ -99,11 +105,6 @@ setup-fits words out l room =
     (rw e, rw e)
 
 -- ---- the file read
-
--- the stores that the bytes of some words are
-unfoldable pub storesFrom : ℕ → List ℕ → List Record
-storesFrom address [] = []
-storesFrom address (value ∷ rest) = let more = storesFrom (suc address) rest in cond (handedOn address value) (Store address value ∷ more) more
 
 -- a word behind some bytes
 word-behind : (before l : List ℕ) (at j : ℕ) → at ≡ length before + j → wordAt (before ++ l) at ≡ wordAt l j
