@@ -19,7 +19,7 @@ use Rattle.desk.specs.Desk.{Desk, lent, engineWord, fittingOf, resetDesk}
 use Rattle.desk.specs.Desk.Laws.{reset-fits, reset-numbers}
 use Rattle.desk.specs.Lists.{answerTo, deskAfter}
 use Rattle.setups.specs.Setup.{handedOn, bytesFrom, setupOf, storesFrom}
-use Rattle.setups.specs.Setup.Laws.{rebuiltFrom, bytes-length, setup-short, setup-read, rebuilt-length, rebuilt-at, rebuilt-bytes}
+use Rattle.setups.specs.Setup.Laws.{rebuiltFrom, bytes-below, bytes-length, setup-short, setup-read, rebuilt-length, rebuilt-at, rebuilt-bytes}
 use Rattle.session.specs.declared.running.Ended.the-variants.{Counts}
 use Rattle.session.specs.Session.{State, state, begun, after, runOf, endedOf, leftOf}
 use Rattle.session.specs.Printed.{linesOf, printedOf}
@@ -144,6 +144,7 @@ handed-on = record {
   records = setup-read;
   no-store = λ address. refl;
   stores = λ address value rest. refl;
+  bytes = λ ws l small. bytes-below 0 ws (omega arith) small;
   rebuilds = rebuilds;
   only = same-only;
   long = long;

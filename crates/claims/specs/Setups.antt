@@ -35,6 +35,8 @@ pub record HandedOn : Type 0 where
   pub no-store : (address : ℕ) → storesFrom address [] ≡ []
   pub stores : (address value : ℕ) (rest : List ℕ) → let more = storesFrom (suc address) rest in
       storesFrom address (value ∷ rest) ≡ cond (handedOn address value) (Store address value ∷ more) more
+  -- it is of bytes, where the words are of 16 bits
+  pub bytes : (ws : List ℕ) → length ws ≡ 1024 → ((i : ℕ) → getD ws i 0 < 65536) → (i : ℕ) → getD (setupOf ws) i 0 < 256
   -- read from reset it is carried out whole, no record refused, and rebuilds the words
   pub rebuilds : (ws : List ℕ) → length ws ≡ 1024
       → (endedOf (setupOf ws) resetDesk ≡ Counts (length (recordsOf (setupOf ws))) 0) × Rebuilt ws (leftOf (setupOf ws) resetDesk)

@@ -19,9 +19,9 @@ fn print_help() {
     programs::write(
         b"setup",
         b"setup [FILE]: carries out a drill file from reset and writes a drill file that rebuilds the words it leaves\n\
-        Without FILE it reads standard input. A file has at most 65,536 bytes; of a longer one nothing is written, and told: too long\n\
+        Without FILE it reads standard input. A file has at most 65,536 bytes; of a longer one nothing is written, and standard error says so\n\
         Every word that is not 0 is stored, in the order of the addresses, but words 3, 4, 6 and 29 of the loops; setup FILE | drill shows it\n\
-        What the loops carry is not handed on: each begins in Manual. Refused records change nothing and are not told: drill FILE tells them\n\
+        What the loops carry is not handed on: each begins in Manual, and obeys a request that waits. Refused records are told by drill FILE alone\n\
         What cannot be read or written is told on standard error, and that line is the only sign: the exit status is always 0\n",
     );
 }

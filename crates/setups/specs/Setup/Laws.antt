@@ -19,7 +19,7 @@ use Rattle.reader.specs.File.{wordAt, recordAt, recordsFrom, recordsOf}
 use Rattle.reader.specs.File.Laws.{whole-at, records-step, records-end}
 use Rattle.desk.specs.Desk.{engineWord}
 use Rattle.setups.specs.declared.Wrote.the-variants.{Bytes}
-use Rattle.setups.specs.Setup.{storeBytes, handedOn, bytesOf, bytesFrom, setupOf, setupCases, wroteBy, setupAnswer, filledBy, setupLeft, storesFrom}
+use Rattle.setups.specs.Setup.{wordBytes, storeBytes, handedOn, bytesOf, bytesFrom, setupOf, setupCases, wroteBy, setupAnswer, filledBy, setupLeft, storesFrom}
 
 -- the two promises of the call, for its answer a
 pub promised : (file out : List ℕ) {answer a : Answer} → answer ≡ a → (wroteBy a (length file) ≡ wroteBy answer (length file)) × (filledBy a file out ≡ filledBy answer file out)
@@ -65,6 +65,30 @@ bytes-length address (value ∷ rest) = simp length-append (go (handedOn address
         → length (cond b (storeBytes address value) []) + length (bytesFrom (suc address) rest) ≡ 8 * length (cond b (Store address value ∷ more) more)
     go true ih = omega (arith, ih)
     go false ih = omega (arith, ih)
+
+-- a number of 16 bits gives bytes
+word-bytes : (n : ℕ) (behind : List ℕ) → n < 65536 → ((i : ℕ) → getD behind i 0 < 256) → (i : ℕ) → getD (wordBytes n ++ behind) i 0 < 256
+word-bytes n behind h rest zero = omega arith
+word-bytes n behind h rest (suc zero) = omega arith
+word-bytes n behind h rest (suc (suc i)) = rest i
+
+store-below : (address value : ℕ) (behind : List ℕ) → address < 65536 → value < 65536 → ((i : ℕ) → getD behind i 0 < 256)
+    → (i : ℕ) → getD (storeBytes address value ++ behind) i 0 < 256
+store-below address value behind a v rest =
+    let body = wordBytes address ++ (wordBytes value ++ behind) in
+    word-bytes 6 (wordBytes 1 ++ body) (omega arith)
+    (word-bytes 1 body (omega arith) (word-bytes address (wordBytes value ++ behind) a (word-bytes value behind v rest)))
+
+-- and so do words of 16 bits
+pub bytes-below : (address : ℕ) (words : List ℕ) → address + length words ≤ 65536 → ((i : ℕ) → getD words i 0 < 65536) → (i : ℕ) → getD (bytesFrom address words) i 0 < 256
+unfolding bytesFrom
+bytes-below address [] size small = λ i. omega arith
+bytes-below address (value ∷ rest) size small = go (handedOn address value) (bytes-below (suc address) rest (omega arith) (λ i. small (suc i)))
+  where
+    go : (b : Bool) → ((i : ℕ) → getD (bytesFrom (suc address) rest) i 0 < 256)
+        → (i : ℕ) → getD (cond b (storeBytes address value) [] ++ bytesFrom (suc address) rest) i 0 < 256
+    go true more = store-below address value (bytesFrom (suc address) rest) (omega arith) (small 0) more
+    go false more = more
 
 -- how many of n addresses a store reaches
 reached : ℕ → ℕ → ℕ
