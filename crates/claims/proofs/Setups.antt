@@ -1,10 +1,10 @@
 -- What is promised of a setup file, proved.
-use Prim.Native.Nat.{ℕ, zero, suc, _+_, _*_, _%_, _≤_, _<_}
+use Prim.Native.Nat.{ℕ, suc, _+_, _*_, _%_, _≤_, _<_}
 use native.Mathlib.Omega.{arith}
 use native.Mathlib.Nat.{add-zero, zero-add}
 use mathlib.Core.Path.{_≡_, refl, sym, ap, _∙_}
-use mathlib.Core.Bool.{Bool, true, false, cond, not, _&&_}
-use mathlib.Core.List.{List, [], _∷_, _++_, append-assoc, append-nil}
+use mathlib.Core.Bool.{Bool, true, false, cond, not}
+use mathlib.Core.List.{List, [], _∷_, _++_, append-assoc}
 use lib.Dec.{eqb}
 use lib.IntN.{ℤ, pos}
 use lib.ListN.{length, getD, replicate, length-append, length-replicate}
@@ -15,7 +15,7 @@ use Rattle.table.specs.Words.Laws.{and-true}
 use Rattle.reader.specs.declared.Record.{Record}
 use Rattle.reader.specs.declared.Record.the-variants.{Store}
 use Rattle.reader.specs.File.{recordsOf}
-use Rattle.desk.specs.Desk.{Desk, lent, engineWord, fittingOf, resetDesk}
+use Rattle.desk.specs.Desk.{lent, engineWord, resetDesk}
 use Rattle.desk.specs.Desk.Laws.{reset-fits, reset-numbers}
 use Rattle.desk.specs.Lists.{answerTo, deskAfter}
 use Rattle.setups.specs.Setup.{handedOn, bytesFrom, setupOf, storesFrom}

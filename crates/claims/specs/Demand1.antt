@@ -1,6 +1,6 @@
 -- Demand 1. A drill file is any list of bytes. All of it is read: a record that the file cuts off is the last one, and behind every other record the
--- next one is read, whether that record was carried out or refused. A refusal has a number of N1 to N9 and changes no word and no number, in a
--- file and in a direct call; a refused direct call leaves everything that was lent to it.
+-- next one is read, whether that record was carried out or refused. A refusal has a number of N1 to N9, a setup's N10 too, and changes no word and no
+-- number, in a file and in a direct call; a refused direct call leaves everything that was lent to it.
 use Prim.Native.Nat.{ℕ, suc, _+_, _≤_, _<_}
 use mathlib.Core.Path.{_≡_}
 use mathlib.Core.Bool.{true, false}

@@ -1,7 +1,6 @@
 // A failure told in one line on standard error: `PROGRAM: WHAT: REASON`, or `PROGRAM: WHAT` where the system has no reason.
 use libc::PATH_MAX;
 use libc::STDERR_FILENO;
-ghost use mathlib.Core.Path.{_≡_};
 ghost use Prim.Native.Nat.{_+_, _≤_};
 ghost use lib.ListN.{length};
 ghost use Rattle.text.specs.Text.{Written};

@@ -1,5 +1,4 @@
 -- `setups::handed_on` meets its contract: by its two tests.
-use mathlib.Core.Path.{sym}
 use borrow.Author.Tests.{ne-eqb}
 use borrow.Author.Needs.{needs}
 use Rattle.setups.proofs.handed_on.Statement.{statement}

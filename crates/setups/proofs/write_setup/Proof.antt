@@ -1,6 +1,6 @@
 -- `setups::write_setup` meets its contract: at each answer, the tests that led there pick the case.
 use native.Mathlib.Omega.{arith}
-use mathlib.Core.Path.{_≡_, sym, ap, _∙_}
+use mathlib.Core.Path.{_≡_, ap, _∙_}
 use lib.ListN.{length}
 use borrow.Author.Tests.{ne-eqb, lt-ltb, le-ltb}
 use Rattle.refusals.specs.declared.Refusal.the-variants.{Memory, Room}

@@ -1,6 +1,5 @@
 -- `programs::telling::put_told` meets its contract: its three texts stand one behind the other.
 use native.Mathlib.Omega.{arith}
-use lib.ListN.{length-append}
 use Rattle.io.proofs.Counting.{counts}
 use Rattle.text.specs.Text.Laws.{written-append}
 use borrow.Author.Needs.{needs}
