@@ -1,5 +1,6 @@
 /* One engine sampled N times: `samples N` prints how many samples were refused, a sum over all lines, and the
- * nanoseconds a sample; `samples N profile` does so with a profile on every loop, whose ramp moves at each sample.
+ * nanoseconds a sample; `samples N profile` does so with a profile on every loop, whose ramp moves at each sample,
+ * and `samples N root` with the root on in every loop, where it is on in three of the sixteen else.
  * Compiled with -DPLAIN it runs the plain engine, else the archive; all else is the same. Raw PVs are made before
  * the first sample, so that a run with N = 0 has all of the work but the samples. */
 #include "kexbardi.h"
@@ -96,6 +97,11 @@ static int all_moved(unsigned long samples) {
     return 1;
 }
 
+static void take_root(unsigned loop) {
+    unsigned address = KEXBARDI_ADDRESS(loop, KEXBARDI_MODE_1);
+    store(address, words[address] | KEXBARDI_M1_ROOT);
+}
+
 static void make_raws(void) {
     uint64_t seed = 88172645463325252ull;
     for (unsigned n = 0; n < RAWS; n++) {
@@ -106,11 +112,12 @@ static void make_raws(void) {
 
 int main(int count, char **args) {
     unsigned long samples = count >= 2 ? strtoul(args[1], NULL, 10) : 0, sum = 0;
-    int profile = count == 3 && strcmp(args[2], "profile") == 0;
+    int profile = count == 3 && strcmp(args[2], "profile") == 0, root = count == 3 && strcmp(args[2], "root") == 0;
     refused += RESET(words, KEXBARDI_WORDS, records, KEXBARDI_NUMBERS) != 0;
     for (unsigned loop = 1; loop <= KEXBARDI_LOOPS; loop++) settle(loop);
     store(600, 2000);
     for (unsigned loop = 1; profile && loop <= KEXBARDI_LOOPS; loop++) start_profile(loop);
+    for (unsigned loop = 1; root && loop <= KEXBARDI_LOOPS; loop++) take_root(loop);
     make_raws();
     clock_t start = clock();
     for (unsigned long n = 0; n < samples; n++) {

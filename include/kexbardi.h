@@ -271,7 +271,7 @@ enum kexbardi_refusal {
     KEXBARDI_ROOM = 10     /* kexbardi_setup: the room is shorter than the file */
 };
 
-/* ---- the functions (Q1 to Q12) */
+/* ---- the functions (Q1 to Q13) */
 
 /* KEXBARDI_VERSION as the library was built with it. A program must not use a library whose major number is not
  * its header's: layouts and parameters differ. One that wants the very answers it was tested with compares the

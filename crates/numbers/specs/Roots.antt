@@ -3,6 +3,7 @@ use Prim.Native.Nat.{ℕ, zero, suc, _+_, _*_, _/_, _≤_, _<_}
 use mathlib.Core.Bool.{cond}
 use lib.Dec.{leb}
 pub mod Laws
+pub mod Newton
 
 -- the greatest number whose square is at most v, of v below 4 ^ digits, a binary digit at a time: that of v / 4 doubled, and 1 added
 -- where the square of that still fits

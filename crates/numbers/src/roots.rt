@@ -1,28 +1,31 @@
-// The square root, to the nearest whole number.
+// The square root, to the nearest whole number, by Newton's rounds: no function here calls itself.
 ghost use mathlib.Core.Path.{_≡_};
-ghost use Rattle.numbers.specs.Roots.{rootWithin, rootOf};
+ghost use Rattle.numbers.specs.Roots.{rootOf};
+ghost use Rattle.numbers.specs.Roots.Newton.{Close};
 
-// The greatest number whose square is at most v, a binary digit a round. At each round v is at
-// least the square of `low` and below that of `low + step`.
-fn greatest_root(v: u32) -> u16
-    ensures { λ r. ⌜ r ≡ rootWithin 16 v ⌝ }
+const ROUNDS: u64 = 2;
+
+// The round of Newton from the power of two with half of v's binary digits, where the division is a shift.
+fn first_guess(v: u32) -> u32
+    ensures { λ r. ⌜ Close 10 v r ⌝ }
 {
-    let mut low: u32 = 0;
-    let mut step: u32 = 65536;
-    for _ in 0u64..16 {
-        step = step / 2;
-        let next = low + step;
-        if next * next <= v {
-            low = next;
-        }
-    }
-    low as u16
+    let half = (32 - u32::leading_zeros(v)) / 2;
+    ((1u32 << half) + (v >> half) + 1) / 2
 }
 
-// A1: the root of v. It is 65,536 above 65,535 × 65,536, so the answer is wider than a word.
+// A1: the root of v. It is 65,536 above 65,535 × 65,536, so the answer is wider than a word. Rounded up, the mean
+// of x and v / x is never below the root; after the rounds it is the root, or one above it.
 pub fn root(v: u32) -> u32
     ensures { λ r. ⌜ r ≡ rootOf v ⌝ }
 {
-    let r = greatest_root(v) as u32;
-    if v > r * r + r { r + 1 } else { r }
+    let mut x = first_guess(v);
+    for _ in 0u64..ROUNDS {
+        x = (x + v / x + 1) / 2;
+    }
+    let below = x - 1;
+    if below as u64 * (x as u64) < v as u64 {
+        x
+    } else {
+        below
+    }
 }

@@ -1,9 +1,9 @@
--- The laws of the root. The greatest number whose square is at most v is the one r with r × r ≤ v < (r + 1) × (r + 1); the root of v, to
--- the nearest whole number, the one r within a half of the exact root.
+-- The laws of the root. The greatest number r whose square is at most v has r × r ≤ v < (r + 1) × (r + 1); the root of v, to the nearest
+-- whole number, is the one r within a half of the exact root.
 use mathlib.Core.Path.{_≡_, ap}
 use Prim.Native.Nat.{ℕ, zero, suc, _+_, _*_, _-_, _/_, _^_, _≤_, _<_}
 use native.Mathlib.Omega.{arith}
-use native.Mathlib.Nat.{mul-le-mul, mul-le-mul-right, pow-suc, lt-of-not-le}
+use native.Mathlib.Nat.{mul-le-mul-right, pow-suc, lt-of-not-le}
 use lib.Dec.{leb, leb→le, nleb→lt}
 use Rattle.numbers.specs.Limits.Laws.{by-test}
 use Rattle.numbers.specs.Roots.{rootWithin, rootOf, Nearest}
@@ -24,16 +24,6 @@ greatest-within (suc digits) v h =
     (λ t. record { most = leb→le _ _ t; next = omega (arith, ih .next) })
     (λ t. record { most = omega (arith, ih .most); next = nleb→lt _ _ t })
 
--- a number is no higher than another where its square is below the square after that
-below-next : (a b : ℕ) → a * a < (b + 1) * (b + 1) → a ≤ b
-below-next a b h =
-    let no : b + 1 ≤ a → ⊥ = λ l. omega (arith, mul-le-mul l l) in
-    omega (arith, lt-of-not-le no)
-
-pub greatest-only : {v r s : ℕ} → Greatest v r → Greatest v s → r ≡ s
-greatest-only {v} {r} {s} p q =
-    omega (arith, below-next r s (omega (arith, p .most, q .next)), below-next s r (omega (arith, q .most, p .next)))
-
 -- ---- the nearest
 
 pub root-exact : (v : ℕ) → v < 2 ^ 32 → Nearest v (rootOf v)
@@ -50,11 +40,18 @@ pub root-no-tie : {v r : ℕ} → Nearest v r → (0 < r → (2 * r - 1) * (2 * 
 root-no-tie {v} {r} p =
     (λ h. let e : 2 * r - 1 + 1 ≡ 2 * r = omega arith in omega (arith, p .above h, ap (λ (n : ℕ). n * n) e), omega (arith, p .below))
 
+-- a number k is at least the root where v is at most k × k + k, or at most its square
+pub root-low : {v r : ℕ} → Nearest v r → (k : ℕ) → v ≤ k * k + k → r ≤ k
+root-low {v} {r} p k h =
+    let no : k + 1 ≤ r → ⊥ = λ l. omega (arith, p .above (omega arith), mul-le-mul-right r l, mul-le-mul-right k l) in
+    omega (arith, lt-of-not-le no)
+
+pub root-high : {v r : ℕ} → Nearest v r → (k : ℕ) → v ≤ k * k → r ≤ k
+root-high p k h = root-low p k (omega arith)
+
 -- roots are in the order of their numbers
 pub root-order : {v w r s : ℕ} → Nearest v r → Nearest w s → v ≤ w → r ≤ s
-root-order {v} {w} {r} {s} p q h =
-    let no : s + 1 ≤ r → ⊥ = λ l. omega (arith, p .above (omega arith), q .below, mul-le-mul-right r l, mul-le-mul-right s l) in
-    omega (arith, lt-of-not-le no)
+root-order {s} p q h = root-low p s (omega (arith, q .below))
 
 pub root-monotone : {v w : ℕ} → v ≤ w → w < 2 ^ 32 → rootOf v ≤ rootOf w
 root-monotone {v} {w} h l = root-order (root-exact v (omega arith)) (root-exact w l) h
@@ -66,7 +63,3 @@ root-only p q = omega (arith, root-order p q (omega arith), root-order q p (omeg
 -- a square has its own root
 pub square-root : (k : ℕ) → Nearest (k * k) k
 square-root k = record { above = λ h. omega arith; below = omega arith }
-
--- a number whose square is at least v is at least the root
-pub root-high : {v r : ℕ} → Nearest v r → (k : ℕ) → v ≤ k * k → r ≤ k
-root-high p k h = root-order p (square-root k) h
