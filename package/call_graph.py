@@ -23,8 +23,8 @@ A function is what stands between two symbols. Every path through it is followed
 jump to another function is a tail call, one to its own start a loop unless it goes by the function's name. The stack is the
 greatest over all paths: from the return address that the call of NAME pushes down to the stack pointer at its lowest, or to
 the lowest byte below it that an operand names (the red zone; all its 128 bytes where there is an index too). Not in it are
-what memcpy and memset take themselves, and arguments that NAME's caller pushes. Addresses in other registers are taken to
-stay within what the function has set aside.
+what memcpy and memset take themselves, and arguments that NAME's caller pushes. Addresses in other registers, and those with
+an index that begin above the stack pointer, are taken to stay within what the function has set aside.
 """
 
 import os
