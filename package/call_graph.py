@@ -22,9 +22,13 @@ name, 1 where something is, and 2 for wrong use or a library that cannot be read
 A function is what stands between two symbols. Every path through it is followed, and from it every direct call and jump: a
 jump to another function is a tail call, one to its own start a loop unless it goes by the function's name. The stack is the
 greatest over all paths: from the return address that the call of NAME pushes down to the stack pointer at its lowest, or to
-the lowest byte below it that an operand names (the red zone; all its 128 bytes where there is an index too). Not in it are
-what memcpy and memset take themselves, and arguments that NAME's caller pushes. Addresses in other registers, and those with
-an index that begin above the stack pointer, are taken to stay within what the function has set aside.
+the lowest byte below it that an operand names. All 128 bytes of the red zone count where an operand has an index, or where an
+address is taken from the stack pointer. Not in it are what memcpy and memset take themselves, and arguments that NAME's caller
+pushes.
+
+Taken for granted is what holds of code that compilers make: no return address is overwritten, nothing is used below the red
+zone, a relocation leaves the instruction that it is, and nothing else is put in the place of a function that the library has
+(by a program with a function of the same name, where the library's is weak or is exported and called by its name).
 """
 
 import os
@@ -35,6 +39,7 @@ from collections import Counter
 from itertools import takewhile
 
 OUTSIDE = {"memcpy", "memset"}
+RED_ZONE = 128  # bytes below the stack pointer that a function may use
 PREFIXES = set("bnd notrack lock rep repz repnz data16 addr32 cs ds es ss fs gs".split())
 # What goes on to the next instruction, and moves the stack pointer only where an operand says so. All others are told.
 PLAIN = re.compile(
@@ -42,6 +47,7 @@ PLAIN = re.compile(
     r"|bt[crs]?|xchg|xadd|cmpxchg|stos|nop)[bwlq]?|bs[fr]|bswap|([lt]z|pop)cnt|c[wlq]t[ldoq]|endbr64|p(?!ush|op)\w+|cvt\w+|\w+[ps][sd]")
 JUMP = re.compile(r"j(mpq?|n?[abglosp]|n?[abgl]?e|[er]cxz)|loop(n?e)?")
 SYMBOL = re.compile(r"([0-9a-f]{16}) (.{7}) (\S+)\t[0-9a-f]+ +(?:\.(?:hidden|protected|internal) )?(.*)")
+HEADING = re.compile(r"In archive .*:|Sections:|Idx Name .*| *\d+ \S+ +[0-9a-f]{8} .*|(DYNAMIC )?SYMBOL TABLE:|no symbols")
 EIGHT_BYTES = re.compile(r"%r([abcd]x|[sd]i|[sb]p|\d+)|\$.*|[^%]*\(.*\)")  # operands of a push or pop
 
 
@@ -58,6 +64,7 @@ class Function:
         self.calls = {}  # place of a function that it calls: how far down that begins
         self.outside = set()  # names
         self.deepest = 0  # how far down it reaches itself
+        self.addressed = False  # whether it may name any byte of the red zone
         self.faults = set()
 
 
@@ -97,7 +104,9 @@ class Library:
                 self.stubs[self.within] = found[2].split("@")[0]
         elif found := re.fullmatch(r" *([0-9a-f]+):\t(.*)", line):
             self.add_instruction(self.place(found[1]), *found[2].split("\t"))
-        elif line and not re.fullmatch(r"In archive .*:|(DYNAMIC )?SYMBOL TABLE:|no symbols", line):
+        elif re.match(r" *\d+ \.gcc_except_table", line):
+            raise Unreadable(f"{self.members[-1]} has exception tables, whose paths are not followed")
+        elif line and not HEADING.fullmatch(line):
             raise Unreadable(f"objdump prints a line of no known form: {line}")
 
     def add_symbol(self, address, flags, section, name):
@@ -127,9 +136,9 @@ class Library:
 
     def find(self, member, name):
         """What a member means by a name: a place, or the name itself where the library does not have it."""
-        places = self.symbols.get((member, name), {None})
-        if places == {None}:
-            places = self.globals.get(name, {name})
+        places, others = self.symbols.get((member, name), {None}), self.globals.get(name, set())
+        if places == {None} or not places.isdisjoint(others):
+            places = others or {name}
         if len(places) > 1:
             raise Fault("unknown", f"{name}, which is there {len(places)} times")
         return next(iter(places))
@@ -172,7 +181,7 @@ def is_shared(path):
 
 def disassembly(path, shared):
     # Without -z a row of zeroes would be left out.
-    options = ["-w", "-z", "-d", "-t", "--no-show-raw-insn"] + (["-T", "-R"] if shared else ["-r"])
+    options = ["-w", "-z", "-h", "-d", "-t", "--no-show-raw-insn"] + (["-T", "-R"] if shared else ["-r"])
     try:
         done = subprocess.run(["objdump", *options, "--", path], env={**os.environ, "LC_ALL": "C"}, capture_output=True,
                               encoding="utf-8", errors="backslashreplace")
@@ -195,6 +204,8 @@ def follow(library, start):
 
     if "i" in library.kinds.get(start, ""):
         fault(start, "indirect", "which function it is, is chosen when the library is loaded")
+    if "O" in library.kinds.get(start, ""):
+        fault(start, "unknown", "data among the code")
     while waiting:
         before, place, depth = waiting.pop()
         if library.owner(place) != start:
@@ -215,6 +226,8 @@ def follow(library, start):
             # What comes next is read too, unless the stack's depth there is not known.
             following = [] if kind == "stack" or re.search(r"\b(jmp|ret)", text) else [(after, depth)]
         waiting += [(place, *path) for path in following]
+    if function.addressed:
+        function.deepest = max(function.deepest, max(depths.values()) + RED_ZONE)
     return function
 
 
@@ -231,8 +244,10 @@ def step(library, function, start, place, depth):
     prefixes, word, operands = parts(text)
     if relocations and "%rsp" in text:
         raise Fault("stack", f"{text} {' '.join(relocations)}")  # a number that the link writes
-    for displacement, index in re.findall(r"-0x([0-9a-f]+)\(%rsp(,?)", text):
-        function.deepest = max(function.deepest, depth + (128 if index else int(displacement, 16)))
+    for displacement, index in re.findall(r"(-0x[0-9a-f]+)?\(%rsp(,?)", text):
+        function.deepest = max(function.deepest, depth - int(displacement or "0", 16))
+        function.addressed |= bool(index) or word == "lea" and operands[-1] != "%rsp"
+    function.addressed |= "%rsp" in operands[:-1] or operands == ["%rsp"]
     if word in ("call", "callq") or JUMP.fullmatch(word):
         if operands and operands[0].startswith("*"):
             raise Fault("indirect")
