@@ -5,7 +5,7 @@ ghost use Rattle.numbers.specs.Roots.Newton.{Close};
 
 const ROUNDS: u64 = 2;
 
-// The round of Newton from the power of two with half of v's binary digits, where the division is a shift.
+// A round from 2 to half the number of v's binary digits, where the division is a shift.
 fn first_guess(v: u32) -> u32
     ensures { λ r. ⌜ Close 10 v r ⌝ }
 {

@@ -1,6 +1,6 @@
 -- `numbers::first_guess` meets its contract: it is the mean of 2 ^ half and v / 2 ^ half, since nothing is shifted out.
 use mathlib.Core.Path.{_≡_, _∙_}
-use Prim.Native.Nat.{ℕ, _*_, _%_, _^_, _≤_, _<_}
+use Prim.Native.Nat.{ℕ, _*_, _%_, _^_, _<_}
 use native.Mathlib.Omega.{arith}
 use native.Mathlib.Nat.{one-mul}
 use lib.Count.{leading-le}

@@ -1,6 +1,6 @@
 -- `numbers::root` meets its contract. The invariant: after some rounds x is as close to the root as `closeness` says.
 use mathlib.Core.Path.{_≡_}
-use Prim.Native.Nat.{_+_, _-_, _/_, _≤_, _<_}
+use Prim.Native.Nat.{_-_, _≤_}
 use native.Mathlib.Omega.{arith}
 use native.Mathlib.Nat.{mul-le-mul}
 use Rattle.numbers.specs.Roots.Newton.{Close, closeness, close-after, round-fits, ends, ends-at, ends-before}
