@@ -43,6 +43,9 @@ static unsigned mode1(void) {
 
 static const unsigned mode2s[] = {0, 2, 512, 530, 16, 256}, full_scales[] = {4095, 32767, 65535, 65535, 4095, 4095};
 
+/* word 600, the output of a loop up to this one or the next, or any word */
+static unsigned pointer(unsigned k) { return any(2) ? 32 * any(k + 1) % 512 + 5 : any(2) ? 600 : any(1024); }
+
 static unsigned settle(unsigned k) {
     unsigned base = 32 * (k - 1), format = any(6), full = full_scales[format], low = any(2) * any(full / 2 + 1);
     store(base, mode1());
@@ -61,7 +64,7 @@ static unsigned settle(unsigned k) {
     store(base + 19, any(full / 8));
     store(base + 24, low);
     store(base + 25, low + any(full - low + 1));
-    store(base + 26, any(4) ? 600 : any(1024));
+    store(base + 26, pointer(k));
     return full;
 }
 

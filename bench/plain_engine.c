@@ -1,4 +1,4 @@
-/* The engine in plain C, by the steps A1 to A11 and the profile's rules G1 to G12 of docs/MANUAL.md and apart from the Rattle
+/* The engine in plain C, by the steps A1 to A13 and the profile's rules G1 to G12 of docs/MANUAL.md and apart from the Rattle
  * sources: one sample, a profile's forecast, stores, a drill file carried out and its lines, and words written as a drill file. It
  * keeps no state of its own. Nothing is proved of it. */
 #include "plain_engine.h"
@@ -8,9 +8,10 @@
 #define WORDS 1024
 #define LOOPS 16
 #define LOOP_WORDS 32
-#define FIELDS 13
+#define FIELDS 14
 #define NUMBERS (LOOPS * FIELDS)
 #define UNIT 262144
+#define OUTPUT 5 /* the output's place in a loop's words (W2) */
 #define TABLE_FIRST 512 /* the lowest and highest address of a profile's table (G2) */
 #define TABLE_LAST 992
 #define SEGMENTS 16
@@ -22,9 +23,9 @@
 
 enum mode { MANUAL, AUTOMATIC, CASCADE };
 
-/* a record's thirteen numbers (H1) */
+/* a record's fourteen numbers (H1) */
 struct carried {
-    int64_t mode, bias, output, last, prior, error, velocity, sampled, segment, hold, complete, fraction, time;
+    int64_t mode, bias, output, last, prior, error, velocity, sampled, segment, hold, complete, fraction, time, mark;
 };
 
 /* what judging has found for the steps: period, gain, reset and rate in hundredths; the table is null where there is no
@@ -81,7 +82,7 @@ static int out_of_range(const struct carried *c) {
         || c->bias < -most || c->bias > most || c->output < 0 || c->output > (int64_t)65535 * UNIT || c->last < 0 || c->last > 65535
         || c->prior < 0 || c->prior > 65535 || c->error < -65535 || c->error > 65535 || c->segment < 0 || c->segment > SEGMENTS
         || c->hold < 0 || c->hold > 1 || c->complete < 0 || c->complete > 1 || c->fraction < 0 || c->fraction >= PARTS
-        || c->time < 0 || c->time > 6000000;
+        || c->time < 0 || c->time > 6000000 || c->mark < 0 || c->mark > 1;
 }
 
 /* G2, G4 */
@@ -123,6 +124,19 @@ static inline uint8_t judge(const uint16_t *words, const uint16_t *w, const stru
     if (refusal == 7) return 7;
     if (refusal == 8 || setting_refused(words, w, r->mode, r->full, r->tuning[0], r->tuning[2])) return 8;
     return raw > r->full ? 9 : 0;
+}
+
+/* A13 */
+static int is_transfer(const uint16_t *w, const struct carried *c, enum mode mode) {
+    return mode == CASCADE && c->mode == AUTOMATIC && !bit(w[0], 3);
+}
+
+/* N11, of a transfer: the pointer is no other loop's output word, or p is outside that loop's output limits */
+static int transfer_refused(const uint16_t *words, const uint16_t *w, int p) {
+    unsigned at = w[26];
+    if (at >= LOOPS * LOOP_WORDS || at % LOOP_WORDS != OUTPUT || words + at == w + OUTPUT) return 1;
+    const uint16_t *major = words + (at - OUTPUT);
+    return p < major[24] || p > major[25];
 }
 
 /* whether a profile runs, held or not */
@@ -279,15 +293,22 @@ static uint8_t sample(uint16_t *words, struct carried *records, uint64_t loop, u
     unsigned measured = (unsigned)raw, full = r.full;
     enum mode mode = r.mode;
     int p = (int)(bit(w[0], 6) ? root(measured * full) : measured);
+    if (is_transfer(w, c, mode)) {
+        if (transfer_refused(words, w, p)) return 11;
+        words[w[26]] = (uint16_t)p; /* so s is p */
+        records[w[26] / LOOP_WORDS].mark = 1;
+    }
     int s = mode == CASCADE ? words[w[26]] : w[2];
     int velocity = bit(w[0], 5);
-    int entry = mode != MANUAL && (c->mode == MANUAL || c->velocity != velocity);
+    int change = c->mode == MANUAL || c->velocity != velocity;
+    int entry = mode != MANUAL && (change || c->mark);
     int64_t low = (int64_t)w[24] * UNIT, high = (int64_t)w[25] * UNIT;
-    uint16_t out = (uint16_t)clamp(w[5], w[24], w[25]), bias_word = w[4];
+    uint16_t out = (uint16_t)clamp(w[OUTPUT], w[24], w[25]), bias_word = w[4];
     int64_t bias = c->bias, output = c->output;
     if (entry) {
         bias = output = (int64_t)out * UNIT;
-        if (mode == AUTOMATIC && !bit(w[0], 3) && !runs(c, r.table)) s = p; /* G11 */
+        if (change && mode == AUTOMATIC && !bit(w[0], 3) && !runs(c, r.table)) s = p; /* G11 */
+        c->mark = 0;
     }
     if (mode != CASCADE) {
         if (r.table) s = profile(w, c, r.table, r.tuning[0], s, p);
@@ -317,7 +338,7 @@ static uint8_t sample(uint16_t *words, struct carried *records, uint64_t loop, u
     w[2] = (uint16_t)s;
     w[3] = (uint16_t)p;
     w[4] = bias_word;
-    w[5] = out;
+    w[OUTPUT] = out;
     w[6] = (uint16_t)word;
     c->mode = mode;
     c->bias = bias;
@@ -327,7 +348,7 @@ static uint8_t sample(uint16_t *words, struct carried *records, uint64_t loop, u
     c->error = e;
     c->velocity = velocity;
     c->sampled = 1;
-    line[0] = w[2], line[1] = w[3], line[2] = w[5], line[3] = w[6];
+    line[0] = w[2], line[1] = w[3], line[2] = w[OUTPUT], line[3] = w[6];
     return 0;
 }
 
@@ -338,6 +359,7 @@ static uint8_t forecast(const uint16_t *words, const struct carried *records, ui
     struct reading r;
     uint8_t refusal = judge(words, w, c, 0, &r);
     if (refusal) return refusal;
+    if (is_transfer(w, c, r.mode) && transfer_refused(words, w, 0)) return 11; /* the root of 0 is 0 */
     *samples = runs(c, r.table) ? remaining(r.table, r.tuning[0], c->segment, (int64_t)w[2] * PARTS + c->fraction, c->time) : 0;
     return 0;
 }
@@ -439,7 +461,7 @@ uint8_t plain_forecast(const uint16_t *words, size_t words_length, const int64_t
     return forecast(words, (const struct carried *)records, loop, samples);
 }
 
-uint8_t plain_record(const int64_t *records, size_t records_length, uint64_t loop, int64_t fields[13]) {
+uint8_t plain_record(const int64_t *records, size_t records_length, uint64_t loop, int64_t fields[14]) {
     if (records_length != NUMBERS) return 5;
     if (loop < 1 || loop > LOOPS) return 4;
     const struct carried *c = (const struct carried *)records + (loop - 1);

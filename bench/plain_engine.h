@@ -22,7 +22,7 @@ uint8_t plain_sample(uint16_t *words, size_t words_length, int64_t *records, siz
 uint8_t plain_forecast(const uint16_t *words, size_t words_length, const int64_t *records, size_t records_length, uint64_t loop,
     uint64_t *samples);
 
-uint8_t plain_record(const int64_t *records, size_t records_length, uint64_t loop, int64_t fields[13]);
+uint8_t plain_record(const int64_t *records, size_t records_length, uint64_t loop, int64_t fields[14]);
 
 uint8_t plain_run(const uint8_t *file, size_t file_length, uint16_t *words, size_t words_length, int64_t *records,
     size_t records_length, uint8_t *answers, size_t answers_length, size_t *count, size_t *refused);

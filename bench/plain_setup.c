@@ -5,7 +5,7 @@
 #include <stdio.h>
 
 #define WORDS 1024
-#define NUMBERS 208
+#define NUMBERS 224
 #define LONGEST 65536
 
 int main(void) {

@@ -43,7 +43,7 @@ extern "C" {
 
 /* Desks that were saved with any version from this one up to kexbardi_version() may be loaded. Older ones have
  * shorter records: CHANGELOG.md says how they are carried over. */
-#define KEXBARDI_OLDEST_SAVE 40000
+#define KEXBARDI_OLDEST_SAVE 50000
 
 /* ---- the words (W1, W2) */
 
@@ -116,7 +116,8 @@ enum kexbardi_mode_1 {
     KEXBARDI_M1_AUTOMATIC = 0x0002,
     KEXBARDI_M1_CASCADE = 0x0004,
     KEXBARDI_M1_BUMPLESS_II = 0x0008,      /* off: Bumpless I, the setpoint becomes the PV at an entry to Automatic,
-                                              unless a profile runs (A4, G11) */
+                                              unless a profile runs (A4, G11), and from Automatic to Cascade the
+                                              setpoint and the major loop's output become the PV (A13) */
     KEXBARDI_M1_REVERSE = 0x0010,          /* the output rises with the PV; off: it falls as the PV rises (M1) */
     KEXBARDI_M1_VELOCITY = 0x0020,         /* velocity form; off: position form */
     KEXBARDI_M1_ROOT = 0x0040,             /* the PV is the root of raw PV x full scale, to the nearest count (A1) */
@@ -213,11 +214,11 @@ enum kexbardi_fault {
 
 /* ---- the records (H1 to H5) */
 
-#define KEXBARDI_FIELDS 13     /* numbers of each record */
-#define KEXBARDI_NUMBERS 208   /* length of the records: 16 of 13 numbers, loop 1 first */
+#define KEXBARDI_FIELDS 14     /* numbers of each record */
+#define KEXBARDI_NUMBERS 224   /* length of the records: 16 of 14 numbers, loop 1 first */
 #define KEXBARDI_UNITS 262144  /* units of a count: bias and output are carried in units */
 
-/* The numbers of a record, in order, and the lowest and highest that each may be. At reset all thirteen are 0.
+/* The numbers of a record, in order, and the lowest and highest that each may be. At reset all fourteen are 0.
  *
  *                 lowest                    highest
  *   mode          0                         2                       one of enum kexbardi_mode
@@ -233,8 +234,9 @@ enum kexbardi_fault {
  *   complete      0                         1                       1 once the profile came to its end
  *   fraction      0                         9,999                   of the setpoint, ten-thousandths of a count
  *   time          0                         6,000,000               of the soak so far, hundredths of a second
+ *   mark          0                         1                       1 once another loop's transfer wrote the output (A13)
  *
- * A record with a number outside these is refused with 5, and all thirteen numbers stay as they are. */
+ * A record with a number outside these is refused with 5, and all fourteen numbers stay as they are. */
 enum kexbardi_field {
     KEXBARDI_FIELD_MODE = 0,
     KEXBARDI_FIELD_BIAS = 1,
@@ -248,12 +250,13 @@ enum kexbardi_field {
     KEXBARDI_FIELD_HOLD = 9,
     KEXBARDI_FIELD_COMPLETE = 10,
     KEXBARDI_FIELD_FRACTION = 11,
-    KEXBARDI_FIELD_TIME = 12
+    KEXBARDI_FIELD_TIME = 12,
+    KEXBARDI_FIELD_MARK = 13
 };
 
 enum kexbardi_mode { KEXBARDI_MANUAL = 0, KEXBARDI_AUTOMATIC = 1, KEXBARDI_CASCADE = 2 };
 
-/* ---- the refusals (N1 to N10), up to 9 by the numbers that instructors know from drill files */
+/* ---- the refusals (N1 to N11), up to 9 by the numbers that instructors know from drill files */
 
 enum kexbardi_refusal {
     KEXBARDI_ACCEPTED = 0,
@@ -268,7 +271,9 @@ enum kexbardi_refusal {
                               KEXBARDI_M1_PROFILE on and a good address, a slope or duration of the table */
     KEXBARDI_SETTING = 8,  /* sample, forecast: a setting that is not allowed (N8 of MANUAL.md lists them) */
     KEXBARDI_ABOVE = 9,    /* sample: the raw PV is above full scale */
-    KEXBARDI_ROOM = 10     /* kexbardi_setup: the room is shorter than the file */
+    KEXBARDI_ROOM = 10,    /* kexbardi_setup: the room is shorter than the file */
+    KEXBARDI_TRANSFER = 11 /* sample, forecast: from Automatic to Cascade with Bumpless I, and the pointer is no other
+                              loop's output word, or the PV is outside that loop's output limits */
 };
 
 /* ---- the functions (Q1 to Q13) */
@@ -279,11 +284,11 @@ enum kexbardi_refusal {
 uint32_t kexbardi_version(void);
 
 /* Words and records as at reset: all words 0, all numbers 0.
- * Answers 5 where words_length is not 1,024 or records_length is not 208; else 0. */
+ * Answers 5 where words_length is not 1,024 or records_length is not 224; else 0. */
 uint8_t kexbardi_reset(uint16_t *words, size_t words_length, int64_t *records, size_t records_length);
 
 /* Stores a value at an address of the words. The desk is lent whole; no record is looked at or changed.
- * Answers 5 where words_length is not 1,024 or records_length is not 208; 6 where the address is above 1,023
+ * Answers 5 where words_length is not 1,024 or records_length is not 224; 6 where the address is above 1,023
  * or one that is not the caller's to store (offset 3, 4, 6 or 29 of a loop); else 0, and that one word has the
  * value. */
 uint8_t kexbardi_store(uint16_t *words, size_t words_length, int64_t *records, size_t records_length,
@@ -298,36 +303,38 @@ enum kexbardi_line {
     KEXBARDI_LINE_STATUS = 3
 };
 
-/* One sample of a loop, 1 to 16, with a raw PV (A1 to A12).
- * Answers the first of these that holds: 5 for words_length not 1,024 or records_length not 208; 4 for no
- * such loop; 5 where a number of the loop's record is out of range; 7, 8, 9. Else 0: words 0, 2, 3, 5 and 6
+/* One sample of a loop, 1 to 16, with a raw PV (A1 to A13).
+ * Answers the first of these that holds: 5 for words_length not 1,024 or records_length not 224; 4 for no
+ * such loop; 5 where a number of the loop's record is out of range; 7, 8, 9, 11. Else 0: words 0, 2, 3, 5 and 6
  * of the loop, word 4 too in position form outside Manual, words 27 and 29 too outside Cascade, its record and
- * the line are written, and nothing else. Other loops' records are not looked at, and may hold anything. */
+ * the line are written, and nothing else but at a transfer, from Automatic to Cascade with Bumpless I: then the PV
+ * is written to the output word that the pointer names, and 1 to that loop's KEXBARDI_FIELD_MARK (A13). Other
+ * loops' records are not looked at, and may hold anything. */
 uint8_t kexbardi_sample(uint16_t *words, size_t words_length, int64_t *records, size_t records_length,
     uint64_t loop, uint64_t raw, uint16_t line[4]);
 
 /* The numbers of a loop's record copied out as they stand, if all are in range: the way to test a desk that
  * was loaded.
- * Answers 5 where records_length is not 208; 4 for no such loop; 5 where a number of the record is out of
- * range; else 0, and `fields` has the thirteen numbers. */
-uint8_t kexbardi_record(const int64_t *records, size_t records_length, uint64_t loop, int64_t fields[13]);
+ * Answers 5 where records_length is not 224; 4 for no such loop; 5 where a number of the record is out of
+ * range; else 0, and `fields` has the fourteen numbers. */
+uint8_t kexbardi_record(const int64_t *records, size_t records_length, uint64_t loop, int64_t fields[14]);
 
 /* How many samples of a loop its profile takes from here to its end, the one that completes it included (G12): for a
  * lesson's clock. Words and record count as they stand; a hold, Cascade and waiting commands are left out. 0 where no
  * profile runs: KEXBARDI_M1_PROFILE off, a table address that is a fault, segment 0 in the record. It is computed at
  * once, however long the profile is.
- * Answers what kexbardi_sample answers to raw PV 0: 5 for words_length not 1,024 or records_length not 208; 4 for no
- * such loop; 5 where a number of the loop's record is out of range; 7, 8; `samples` stays then. Else 0, and `samples`
+ * Answers what kexbardi_sample answers to raw PV 0: 5 for words_length not 1,024 or records_length not 224; 4 for no
+ * such loop; 5 where a number of the loop's record is out of range; 7, 8, 11; `samples` stays then. Else 0, and `samples`
  * has the number. Words and records stay in any case. */
 uint8_t kexbardi_forecast(const uint16_t *words, size_t words_length, const int64_t *records, size_t records_length,
     uint64_t loop, uint64_t *samples);
 
 /* A whole drill file (L1 to L8), of any length, carried out on the words and records.
- * Answers 5 where words_length is not 1,024 or records_length is not 208; nothing is read then, and nothing
+ * Answers 5 where words_length is not 1,024 or records_length is not 224; nothing is read then, and nothing
  * written, not into `answers` either. Else 0: each record of the file is carried out or refused, `count` says
  * how many there were and `refused` how many of them were refused, and the answer to each (0 or its number)
  * goes into `answers` in order, as many as fit. A sample of a loop whose record has a number out of range is
- * refused with 5 as in kexbardi_sample: all thirteen numbers stay, and the reading goes on. */
+ * refused with 5 as in kexbardi_sample: all fourteen numbers stay, and the reading goes on. */
 uint8_t kexbardi_run(const uint8_t *file, size_t file_length, uint16_t *words, size_t words_length, int64_t *records,
     size_t records_length, uint8_t *answers, size_t answers_length, size_t *count, size_t *refused);
 

@@ -81,7 +81,7 @@ static uint8_t store_of(size_t words_length, size_t records_length, uint64_t add
 }
 
 /* What an accepted sample does to words 27 and 29, `was` before it and `now` after: in Cascade nothing, and nothing to
- * the record's last five numbers; else word 29 is by G2, and word 27 is 0 (G4) or says what the record does (G10). */
+ * the record's five numbers of a profile; else word 29 is by G2, and word 27 is 0 (G4) or says what the record does (G10). */
 static void profile_words(uint16_t *was, const uint16_t *now, const int64_t *old, const int64_t *r) {
     const unsigned on = was[0] & 2048, table = was[28];
     if (r[0] == 2) {
@@ -93,6 +93,17 @@ static void profile_words(uint16_t *was, const uint16_t *now, const int64_t *old
     else was[27] = 0, check("no profile", r[8] == 0 && r[9] == 0 && r[10] == 0 && old[11] == r[11] && old[12] == r[12]);
 }
 
+/* What it does to another loop, `was` and `old` before it, `now` and `r` after: nothing but at a transfer (A13), and then word 5 is
+ * p and the mark 1. Its own mark stays in Manual, else it is 0. */
+static void transfer_words(const uint16_t *was, const uint16_t *now, const int64_t *old, const int64_t *r) {
+    equals("the mark", r[13], r[0] == 0 ? old[13] : 0);
+    if (old[0] != 1 || r[0] != 2 || was[0] & 8) return;
+    check("a transfer to a word 5", was[26] < 512 && was[26] % 32 == 5);
+    if (was[26] >= 512) return;
+    before.words[GUARD + was[26]] = now[3];
+    before.records[GUARD + 14 * (was[26] / 32) + 13] = 1;
+}
+
 static uint8_t sample_of(size_t words_length, size_t records_length, uint64_t loop, uint64_t raw) {
     keep();
     uint8_t answer = kexbardi_sample(words, words_length, records, records_length, loop, raw, line);
@@ -100,6 +111,7 @@ static uint8_t sample_of(size_t words_length, size_t records_length, uint64_t lo
         const size_t table = KEXBARDI_ADDRESS(loop, 0), place = KEXBARDI_FIELDS * (loop - 1);
         const uint16_t *w = words + table;
         profile_words(before.words + GUARD + table, w, before.records + GUARD + place, records + place);
+        transfer_words(before.words + GUARD + table, w, before.records + GUARD + place, records + place);
         before.words[GUARD + table] &= 0xfff8; /* the request bits are cleared, the others stay */
         free_to_write(w + 2, 5 * sizeof *w);
         free_to_write(records + place, KEXBARDI_FIELDS * sizeof *records);
@@ -227,7 +239,7 @@ static void check_line(unsigned setpoint, unsigned pv, unsigned output, unsigned
 
 #define UNITS(counts) ((int64_t)262144 * (counts))
 
-/* The record of a loop that has no profile; bias and output are in units. */
+/* The record of a loop that has no profile and no mark; bias and output are in units. */
 static void check_record(unsigned loop, int64_t mode, int64_t bias, int64_t output, int64_t last, int64_t prior, int64_t error,
     int64_t velocity, int64_t sampled) {
     equals("record", record(loop), 0);
@@ -239,7 +251,7 @@ static void check_record(unsigned loop, int64_t mode, int64_t bias, int64_t outp
     equals("last error", fields[KEXBARDI_FIELD_ERROR], error);
     equals("velocity", fields[KEXBARDI_FIELD_VELOCITY], velocity);
     equals("sampled", fields[KEXBARDI_FIELD_SAMPLED], sampled);
-    for (int n = KEXBARDI_FIELD_SEGMENT; n < KEXBARDI_FIELDS; n++) equals("a number of the profile", fields[n], 0);
+    for (int n = KEXBARDI_FIELD_SEGMENT; n < KEXBARDI_FIELDS; n++) equals("a number of the profile, or the mark", fields[n], 0);
 }
 
 static void check_worked_loop(unsigned loop) {
@@ -447,8 +459,8 @@ static void wrong_lengths(size_t words_length, size_t records_length) {
 }
 
 static void lengths(void) {
-    static const size_t word_counts[] = {1024, 0, 1, 208, 512, 1023, 1025, 1024 + GUARD},
-                        number_counts[] = {208, 0, 13, 16, 128, 207, 209, 208 + GUARD};
+    static const size_t word_counts[] = {1024, 0, 1, 224, 512, 1023, 1025, 1024 + GUARD},
+                        number_counts[] = {224, 0, 14, 128, 208, 223, 225, 224 + GUARD};
     begin_profile("lengths");
     equals("sample", sample(1, 1000), 0);
     for (int n = 0; n < 8; n++)
@@ -458,22 +470,27 @@ static void lengths(void) {
     equals("the right lengths", forecast_of(word_counts[0], number_counts[0], 1), 0);
 }
 
-/* All 64 sums of these faults in one sample of loop A: 1,023 words lent, no such loop, a number of the record
- * out of range, a digit above 9, a setting, a raw PV above full scale. The first that holds is answered. */
+/* All 128 sums of these faults in one sample of loop A, from Automatic to Cascade: 1,023 words lent, no such loop, a number of
+ * the record out of range, a digit above 9, a setting, a raw PV above full scale, a pointer to no output. The first that holds is
+ * answered; a forecast has no raw PV. */
 static void order(void) {
     static const uint8_t numbers[] = {KEXBARDI_MEMORY, KEXBARDI_LOOP, KEXBARDI_MEMORY, KEXBARDI_DIGIT, KEXBARDI_SETTING,
-        KEXBARDI_ABOVE, KEXBARDI_ACCEPTED};
-    for (unsigned faults = 0; faults < 64; faults++) {
+        KEXBARDI_ABOVE, KEXBARDI_TRANSFER, KEXBARDI_ACCEPTED};
+    for (unsigned faults = 0; faults < 128; faults++) {
         begin_loop_a("order of refusals");
-        unsigned first = 0;
-        while (first < 6 && !(faults >> first & 1)) first++;
+        equals("entry", sample(1, 1000), 0);
+        unsigned first = 0, of_forecast = 0;
+        while (first < 7 && !(faults >> first & 1)) first++;
+        while (of_forecast < 7 && !((faults & ~32u) >> of_forecast & 1)) of_forecast++;
+        words[KEXBARDI_MODE_1] = 4, words[KEXBARDI_ADDRESS(2, KEXBARDI_OUTPUT_HIGH)] = 4095;
+        words[KEXBARDI_POINTER] = (uint16_t)KEXBARDI_ADDRESS(2, faults & 64 ? KEXBARDI_BIAS : KEXBARDI_OUTPUT);
         if (faults & 4) memset(records, 0xff, KEXBARDI_NUMBERS * sizeof *records);
         if (faults & 8) words[KEXBARDI_GAIN] = 0x000a;
         if (faults & 16) words[KEXBARDI_RESET] = 0;
         const size_t length = faults & 1 ? 1023 : 1024;
         const unsigned loop = faults & 2 ? 17 : 1;
-        equals("sample", sample_of(length, 208, loop, faults & 32 ? 4096 : 1000), numbers[first]);
-        equals("forecast", forecast_of(length, 208, loop), first < 5 ? numbers[first] : 0);
+        equals("forecast", forecast_of(length, 224, loop), numbers[of_forecast]);
+        equals("sample", sample_of(length, 224, loop, faults & 32 ? 4096 : 1000), numbers[first]);
     }
 }
 
@@ -593,9 +610,9 @@ static void wide_loop(uint64_t loop) {
     equals("sample", sample(loop, 1000), 4);
     equals("record", record(loop), 4);
     equals("forecast", forecast(loop), 4);
-    equals("sample: 5 before 4", sample_of(1023, 208, loop, 1000), 5);
-    equals("record: 5 before 4", record_of(207, loop), 5);
-    equals("forecast: 5 before 4", forecast_of(1023, 208, loop), 5);
+    equals("sample: 5 before 4", sample_of(1023, 224, loop, 1000), 5);
+    equals("record: 5 before 4", record_of(223, loop), 5);
+    equals("forecast: 5 before 4", forecast_of(1023, 224, loop), 5);
     for (int n = 0; n < 4; n++) equals("4 before 9", sample(loop, wide_raws[n]), 4);
 }
 
@@ -603,7 +620,7 @@ static void wide_raw(uint64_t raw) {
     const struct lent kept = lent;
     equals("sample", sample(1, raw), 9);
     equals("no such loop", sample(17, raw), 4);
-    equals("1,023 words", sample_of(1023, 208, 1, raw), 5);
+    equals("1,023 words", sample_of(1023, 224, 1, raw), 5);
     words[KEXBARDI_RESET] = 0;
     equals("8 before 9", sample(1, raw), 8);
     words[KEXBARDI_GAIN] = 0x000a;
@@ -619,7 +636,7 @@ static void wide(void) {
     begin_loop_a("an address of many bits");
     for (int n = 0; n < 3; n++) {
         equals("store", store(wide_addresses[n], 7), 6);
-        equals("5 before 6", store_of(1024, 207, wide_addresses[n], 7), 5);
+        equals("5 before 6", store_of(1024, 223, wide_addresses[n], 7), 5);
     }
     for (int m = 0; m < 3; m++) {
         begin_loop_a("a raw PV of many bits");
@@ -699,8 +716,8 @@ static void profile_commands(void) {
     profile_sample(1003, 0x0240, SOAK_2 - 5 + 2 + SOAK_4 + 1);
     check_profile(2, 1, 0, 0, 500);
 
-    /* Cascade: 800 counts up by 2.50; a command waits there, with bit 11 off too */
-    store(0, 4 | 2048), store(26, 600), store(600, 200), store(27, 4);
+    /* Cascade by Bumpless II: 800 counts up by 2.50; a command waits there, with bit 11 off too */
+    store(0, 4 | 8 | 2048), store(26, 600), store(600, 200), store(27, 4);
     profile_sample(200, 0x0004, SOAK_2 - 5 + 320 + SOAK_4 + 1);
     store(0, 0);
     profile_sample(200, 0x0004, 0);
@@ -708,15 +725,15 @@ static void profile_commands(void) {
     store(0, 2 | 2048);
     profile_sample(200, 0x0220, SOAK_2 - 5 + 320 + SOAK_4 + 1); /* 800 apart, and 40 allowed */
     check_profile(2, 0, 0, 0, 500);
-    words[KEXBARDI_MODE_1] = 4 | 2048, words[KEXBARDI_SETPOINT] = 5000; /* above full scale, in Cascade alone */
+    words[KEXBARDI_MODE_1] = 4 | 8 | 2048, words[KEXBARDI_SETPOINT] = 5000; /* above full scale, in Cascade alone */
     records[KEXBARDI_FIELD_SEGMENT] = 1;
     forecast_is(1, 1330 + SOAK_2 + RAMP_3 + SOAK_4 + 1);
     words[KEXBARDI_MODE_1] = 2 | 2048;
     equals("outside Cascade", forecast(1), 8);
 }
 
-/* One sample of the profile above, from a record of the caller's own making: mode 1, word 27, word 2 and PV, the record's last
- * five numbers; then word 2, word 27 and the five numbers behind it. The carried mode is Automatic, or Manual where Automatic is
+/* One sample of the profile above, from a record of the caller's own making: mode 1, word 27, word 2 and PV, the record's
+ * five numbers of the profile; then word 2, word 27 and the five numbers behind it. The carried mode is Automatic, or Manual where Automatic is
  * requested. */
 struct step {
     const char *name;
@@ -1126,10 +1143,427 @@ static void bias_words(void) {
     check_record(1, 1, UNITS(2000), UNITS(3000), 1000, 1000, 500, 0, 1);
 }
 
+/* ---- transfers (A13) */
+
+#define MARK(loop) records[KEXBARDI_FIELDS * ((loop) - 1) + KEXBARDI_FIELD_MARK]
+
+static uint16_t *word_of(unsigned loop, unsigned offset) { return words + KEXBARDI_ADDRESS(loop, offset); }
+
+/* Two loops A in Automatic: the major one with PV 1,000 and setpoint 1,100, output 2,220 and bias 2,020; the minor one, whose
+ * pointer leads to its output, with PV 1,500 and setpoint 1,600, output and bias the same. Cascade is requested there. */
+static void begin_pair(const char *name, unsigned minor, unsigned major) {
+    begin(name);
+    settle(minor), settle(major);
+    store(KEXBARDI_ADDRESS(minor, KEXBARDI_POINTER), KEXBARDI_ADDRESS(major, KEXBARDI_OUTPUT));
+    equals("the major loop's entry", sample(major, 1000), 0);
+    equals("the minor loop's entry", sample(minor, 1500), 0);
+    store(KEXBARDI_ADDRESS(major, KEXBARDI_SETPOINT), 1100), store(KEXBARDI_ADDRESS(minor, KEXBARDI_SETPOINT), 1600);
+    equals("the major loop", sample(major, 1000), 0);
+    check_line(1100, 1000, 2220, 0x0002);
+    equals("the minor loop", sample(minor, 1500), 0);
+    check_line(1600, 1500, 2220, 0x0002);
+    store(KEXBARDI_ADDRESS(minor, KEXBARDI_MODE_1), 4);
+}
+
+/* The minor loop's sample is refused with 11, and then its forecast, whose p is 0, as a sample is; no memory changes. */
+static void transfer_refused(const char *what, unsigned minor, uint64_t raw) {
+    equals(what, sample(minor, raw), KEXBARDI_TRANSFER);
+    equals("the request stands", *word_of(minor, KEXBARDI_MODE_1) & 7, 4);
+    forecast(minor);
+}
+
+/* All memory beside a transfer of loop 3 to loop 7: both loops' words that no rule names, all other words and all other numbers
+ * are garbage and stay, those of the major loop's record too. PV 1,510, e = 0: the output is the bias, 2,020. */
+static void transfer_memory(void) {
+    const unsigned minor = 3, major = 7;
+    static struct lent expected;
+    begin_pair("a transfer's memory", minor, major);
+    for (unsigned address = 0; address < KEXBARDI_WORDS; address++)
+        if (address / 32 != minor - 1 && address != 32 * (major - 1) + 24 && address != 32 * (major - 1) + 25)
+            words[address] = (uint16_t)(0xa000 + address);
+    *word_of(major, KEXBARDI_OUTPUT) = 4095; /* not above full scale, though it is written over */
+    *word_of(minor, KEXBARDI_PROFILE_FLAGS) = 0x1234, *word_of(minor, KEXBARDI_PROFILE_FAULT) = 77;
+    for (unsigned n = 0; n < KEXBARDI_NUMBERS; n++)
+        if (n / 14 != minor - 1) records[n] = INT64_MIN + n;
+    MARK(major) = -7;
+    *word_of(minor, KEXBARDI_MODE_1) = 0x8004; /* bit 15 stays */
+
+    expected = lent;
+    uint16_t *w = expected.words + GUARD + 32 * (minor - 1);
+    const int64_t record_after[14] = {2, UNITS(2020), UNITS(2020), 1510, 1500, 0, 0, 1, 0, 0, 0, 0, 0, 0};
+    const uint16_t line_after[4] = {1510, 1510, 2020, 0x0004};
+    w[0] = 0x8000, w[2] = 1510, w[3] = 1510, w[4] = 2020, w[5] = 2020, w[6] = 0x0004;
+    expected.words[GUARD + 32 * (major - 1) + 5] = 1510;
+    memcpy(expected.records + GUARD + 14 * (minor - 1), record_after, sizeof record_after);
+    expected.records[GUARD + 14 * (major - 1) + 13] = 1;
+    memcpy(expected.line + GUARD, line_after, sizeof line_after);
+    equals("sample", sample(minor, 1510), 0);
+    check("every word, number and the line", memcmp(&lent, &expected, sizeof lent) == 0);
+    equals("the major loop's record is no better for it", record(major), 5);
+
+    /* two causes of 11 on the same memory: every byte stays */
+    *word_of(minor, KEXBARDI_MODE_1) = 4, records[14 * (minor - 1)] = 1, MARK(major) = -7;
+    *word_of(major, KEXBARDI_OUTPUT_LOW) = 1511;
+    transfer_refused("p below the low limit", minor, 1510);
+    equals("the mark", MARK(major), -7);
+    *word_of(minor, KEXBARDI_POINTER) = (uint16_t)KEXBARDI_ADDRESS(minor, KEXBARDI_SETPOINT);
+    transfer_refused("its own setpoint", minor, 1510);
+}
+
+/* Velocity form: word 4 stays, and the carried bias. The error falls from 100 to 0: 2,220 - 200. */
+static void transfer_in_velocity(void) {
+    begin("a transfer in velocity form");
+    settle(1), settle(2);
+    store(0, 2 | 32), store(26, 37);
+    equals("entry", sample(1, 1500), 0);
+    store(2, 1600);
+    equals("sample", sample(1, 1500), 0);
+    check_line(1600, 1500, 2220, 0x0002);
+    store(0, 4 | 32), words[KEXBARDI_BIAS] = 123;
+    equals("transfer", sample(1, 1500), 0);
+    check_line(1500, 1500, 2020, 0x0004);
+    equals("word 4", words[KEXBARDI_BIAS], 123);
+    check_record(1, 2, UNITS(2000), UNITS(2020), 1500, 1500, 0, 1, 1);
+    equals("loop 2's output", words[37], 1500);
+    equals("record", record(2), 0);
+    equals("loop 2's mark", fields[KEXBARDI_FIELD_MARK], 1);
+}
+
+/* p by the root, 2,024 of raw PV 1,000: it is what the limits are for, and what is written. Loop 2 is the minor one. */
+static void transfer_of_a_root(void) {
+    begin("a transfer with the root");
+    settle(1), settle(2);
+    store(32, 2 | 64), store(58, 5);
+    equals("entry", sample(2, 1000), 0);
+    check_line(2024, 2024, 2000, 0x0002);
+    store(32, 4 | 64), store(24, 900), store(25, 2023);
+    transfer_refused("p above the high limit", 2, 1000);
+    store(24, 2024), store(25, 2024);
+    equals("p at both", sample(2, 1000), 0);
+    check_line(2024, 2024, 2000, 0x0004);
+    equals("loop 1's output", words[5], 2024);
+}
+
+/* A transfer with a change of form is an entry too: from word 5, 700, and word 4 stays. */
+static void transfer_by_form(void) {
+    begin_pair("a transfer with a change of form", 2, 1);
+    *word_of(2, KEXBARDI_OUTPUT) = 700, *word_of(2, KEXBARDI_MODE_1) = 4 | 32;
+    equals("transfer", sample(2, 1510), 0);
+    check_line(1510, 1510, 700, 0x0004);
+    equals("word 4", *word_of(2, KEXBARDI_BIAS), 2020);
+    check_record(2, 2, UNITS(700), UNITS(700), 1510, 1500, 0, 1, 1);
+    equals("loop 1's output", words[5], 1510);
+    equals("loop 1's mark", MARK(1), 1);
+}
+
+/* The word at the pointer is tested as it stands (N8); what it held has no other part: alarms see s at p. */
+static void transfer_pointed(void) {
+    begin_pair("the word at the pointer", 2, 1);
+    *word_of(2, KEXBARDI_MODE_1) = 4 | 8192;
+    *word_of(2, KEXBARDI_YELLOW) = 50, *word_of(2, KEXBARDI_RED) = 99, *word_of(2, KEXBARDI_HYSTERESIS) = 10;
+    words[5] = 4096;
+    equals("above full scale", sample(2, 1510), 8);
+    words[5] = 4095;
+    equals("at full scale", sample(2, 1510), 0);
+    check_line(1510, 1510, 2020, 0x0004);
+}
+
+/* Every loop to every other is accepted, and to itself refused. Behind it the major loop goes on from 1,510: e = 100, P = 200,
+ * I = 20, and the setpoint stays. */
+static void transfer_pairs(void) {
+    for (unsigned minor = 1; minor <= KEXBARDI_LOOPS; minor++)
+        for (unsigned major = 1; major <= KEXBARDI_LOOPS; major++) {
+            if (minor == major) continue;
+            begin_pair("a pair of loops", minor, major);
+            *word_of(minor, KEXBARDI_POINTER) = (uint16_t)KEXBARDI_ADDRESS(minor, KEXBARDI_OUTPUT);
+            transfer_refused("its own output", minor, 1510);
+            *word_of(minor, KEXBARDI_POINTER) = (uint16_t)KEXBARDI_ADDRESS(major, KEXBARDI_OUTPUT);
+            equals("transfer", sample(minor, 1510), 0);
+            check_line(1510, 1510, 2020, 0x0004);
+            equals("the major loop's output", *word_of(major, KEXBARDI_OUTPUT), 1510);
+            equals("the major loop's mark", MARK(major), 1);
+            check_record(minor, 2, UNITS(2020), UNITS(2020), 1510, 1500, 0, 0, 1);
+            equals("the major loop", sample(major, 1000), 0);
+            check_line(1100, 1000, 1730, 0x0002);
+            check_record(major, 1, UNITS(1530), UNITS(1730), 1000, 1000, 100, 0, 1);
+            equals("the minor loop follows", sample(minor, 1730), 0);
+            check_line(1730, 1730, 2020, 0x0004);
+            equals("no mark", MARK(major), 0);
+        }
+}
+
+/* Every address as the pointer of a loop, each behind limits that p lies in: the fifteen outputs of the others, and no more. */
+static void transfer_pointers(void) {
+    static const unsigned minors[] = {1, 2, 9, 16};
+    for (int k = 0; k < 4; k++) {
+        unsigned accepted = 0;
+        begin_pair("every address", minors[k], minors[k] % 16 + 1);
+        for (unsigned table = 0; table < KEXBARDI_WORDS; table += 32) words[table + 24] = 0, words[table + 25] = 4095;
+        *word_of(minors[k], KEXBARDI_MODE_2) = 512; /* no word is above full scale */
+        const struct lent kept = lent;
+        for (unsigned pointer = 0; pointer < 1100; pointer++) {
+            const int output = pointer < 512 && pointer % 32 == 5 && pointer / 32 != minors[k] - 1;
+            *word_of(minors[k], KEXBARDI_POINTER) = (uint16_t)pointer;
+            const uint8_t answer = sample(minors[k], 1510);
+            equals("sample", answer, output ? 0 : pointer < 1024 ? 11 : 8);
+            accepted += answer == 0;
+            lent = kept;
+        }
+        equals("outputs of other loops", accepted, 15);
+    }
+}
+
+/* p against the major loop's limits as plain words, in 16 bits; the word at the pointer is 0, the minor loop's limits 0 and 0. */
+static void transfer_limits(void) {
+    static const uint16_t edges[] = {0, 1, 2, 1000, 4095, 4096, 32767, 32768, 32769, 65534, 65535};
+    const size_t count_of = sizeof edges / sizeof *edges;
+    begin_pair("p and the limits", 2, 1);
+    *word_of(2, KEXBARDI_MODE_2) = 512, *word_of(1, KEXBARDI_OUTPUT) = 0;
+    *word_of(2, KEXBARDI_OUTPUT_LOW) = 0, *word_of(2, KEXBARDI_OUTPUT_HIGH) = 0;
+    const struct lent kept = lent;
+    for (size_t low = 0; low < count_of; low++)
+        for (size_t high = 0; high < count_of; high++)
+            for (size_t p = 0; p < count_of; p++) {
+                *word_of(1, KEXBARDI_OUTPUT_LOW) = edges[low], *word_of(1, KEXBARDI_OUTPUT_HIGH) = edges[high];
+                const int inside = low <= p && p <= high;
+                equals("sample", sample(2, edges[p]), inside ? 0 : 11);
+                equals("the major loop's output", *word_of(1, KEXBARDI_OUTPUT), inside ? edges[p] : 0);
+                equals("its mark", MARK(1), inside);
+                lent = kept;
+            }
+}
+
+/* The causes of 11, each alone: without it the same sample is accepted. And what is no transfer, with all of them. */
+static void transfer_causes(void) {
+    static const uint16_t pointers[] = {0, 1, 4, 6, 31, 37, 32 + 4, 32 + 6, 64 + 21, 511, 512, 517, 549, 1023};
+    begin_pair("causes of 11", 2, 1);
+    words[536] = 0, words[537] = 4095; /* the limits of a loop 17, were there one */
+    const struct lent kept = lent;
+    for (size_t n = 0; n < sizeof pointers / sizeof *pointers; n++) {
+        *word_of(2, KEXBARDI_POINTER) = pointers[n];
+        transfer_refused("the pointer", 2, 1510);
+        *word_of(2, KEXBARDI_POINTER) = 5;
+        equals("mended", sample(2, 1510), 0);
+        lent = kept;
+    }
+    words[24] = 1511;
+    transfer_refused("p one below the low limit", 2, 1510);
+    words[24] = 1510;
+    equals("p at the low limit", sample(2, 1510), 0);
+    lent = kept;
+    words[25] = 1509;
+    transfer_refused("p one above the high limit", 2, 1510);
+    words[25] = 1510;
+    equals("p at the high limit", sample(2, 1510), 0);
+    lent = kept;
+    words[24] = 1511, words[25] = 1509;
+    transfer_refused("limits in the wrong order", 2, 1510);
+
+    /* no transfer: the limits do not matter, and of the major loop nothing changes */
+    *word_of(2, KEXBARDI_MODE_1) = 4 | 8;
+    equals("Bumpless II", sample(2, 1510), 0);
+    equals("setpoint", line[KEXBARDI_LINE_SETPOINT], 2220);
+    *word_of(2, KEXBARDI_MODE_1) = 4;
+    equals("from Cascade", sample(2, 1510), 0);
+    *word_of(2, KEXBARDI_MODE_1) = 1;
+    equals("Manual", sample(2, 1510), 0);
+    *word_of(2, KEXBARDI_MODE_1) = 4;
+    equals("from Manual", sample(2, 1510), 0);
+    equals("setpoint", line[KEXBARDI_LINE_SETPOINT], 2220);
+    *word_of(2, KEXBARDI_MODE_1) = 2;
+    equals("to Automatic", sample(2, 1510), 0);
+    *word_of(2, KEXBARDI_MODE_1) = 6;
+    equals("the lower request", sample(2, 1510), 0);
+    equals("the major loop's mark", MARK(1), 0);
+    *word_of(2, KEXBARDI_MODE_1) = 4;
+    transfer_refused("from Automatic again", 2, 1510);
+}
+
+/* One sample of loop A that carries a mark, word 5 2,000, bias 500 and output 700: e = 200 by setpoint 1,200 and p 1,000, P = 400,
+ * I = 40, no D though rate and last PV would give one; 600 holds 1,200 too. */
+struct marked {
+    const char *name;
+    int64_t mode, velocity;
+    uint16_t mode_1, setpoint, output, status;
+    int64_t bias, carried, mark;
+};
+
+static const struct marked marked_samples[] = {
+    {"in Automatic", 1, 0, 0, 1200, 2440, 0x0002, UNITS(2040), UNITS(2440), 0},
+    {"in Automatic, Bumpless II", 1, 0, 8, 1200, 2440, 0x0002, UNITS(2040), UNITS(2440), 0},
+    {"in Automatic, requested again", 1, 0, 2, 1200, 2440, 0x0002, UNITS(2040), UNITS(2440), 0},
+    {"in Cascade", 2, 0, 0, 1200, 2440, 0x0004, UNITS(2040), UNITS(2440), 0},
+    {"to Cascade, Bumpless II", 1, 0, 4 | 8, 1200, 2440, 0x0004, UNITS(2040), UNITS(2440), 0},
+    {"from Cascade to Automatic", 2, 0, 2, 1200, 2440, 0x0002, UNITS(2040), UNITS(2440), 0},
+    {"in velocity form", 1, 1, 32, 1200, 2040, 0x0002, UNITS(2000), UNITS(2040), 0},
+    {"to velocity form", 1, 0, 32, 1000, 2000, 0x0002, UNITS(2000), UNITS(2000), 0},
+    {"to position form", 1, 1, 0, 1000, 2000, 0x0002, UNITS(2000), UNITS(2000), 0},
+    {"to position form, Bumpless II", 1, 1, 8, 1200, 2440, 0x0002, UNITS(2040), UNITS(2440), 0},
+    {"to velocity form in Cascade", 2, 0, 32, 1200, 2040, 0x0004, UNITS(2000), UNITS(2040), 0},
+    {"from Manual", 0, 0, 2, 1000, 2000, 0x0002, UNITS(2000), UNITS(2000), 0},
+    {"from Manual, Bumpless II", 0, 0, 2 | 8, 1200, 2440, 0x0002, UNITS(2040), UNITS(2440), 0},
+    {"from Manual to Cascade", 0, 0, 4, 1200, 2440, 0x0004, UNITS(2040), UNITS(2440), 0},
+    {"in Manual", 0, 0, 0, 1200, 2000, 0x0001, UNITS(500), UNITS(700), 1},
+    {"to Manual", 1, 0, 1, 1200, 2000, 0x0001, UNITS(500), UNITS(700), 1},
+    {"to Manual from Cascade, by form", 2, 0, 1 | 32, 1200, 2000, 0x0001, UNITS(500), UNITS(700), 1},
+};
+
+static void marks(void) {
+    for (size_t n = 0; n < sizeof marked_samples / sizeof *marked_samples; n++) {
+        const struct marked *c = &marked_samples[n];
+        begin_lent(c->name, c->mode, UNITS(500), UNITS(700), 3000, 100, 65535, c->velocity, 1);
+        MARK(1) = 1;
+        words[KEXBARDI_MODE_1] = c->mode_1, words[KEXBARDI_SETPOINT] = 1200, words[KEXBARDI_RATE] = 0x0100;
+        words[KEXBARDI_POINTER] = 600, words[600] = 1200;
+        equals("sample", sample(1, 1000), 0);
+        check_line(c->setpoint, 1000, c->output, c->status);
+        equals("record", record(1), 0);
+        equals("carried bias", fields[KEXBARDI_FIELD_BIAS], c->bias);
+        equals("carried output", fields[KEXBARDI_FIELD_OUTPUT], c->carried);
+        equals("PV before it", fields[KEXBARDI_FIELD_PRIOR_PV], 3000);
+        equals("last error", fields[KEXBARDI_FIELD_ERROR], c->setpoint - 1000);
+        equals("mark", fields[KEXBARDI_FIELD_MARK], c->mark);
+    }
+
+    /* a transfer of a loop that has a mark is an entry of it: from word 5, and its mark goes to the other */
+    begin_pair("a mark handed on", 2, 1);
+    MARK(2) = 1, *word_of(2, KEXBARDI_OUTPUT) = 700;
+    equals("transfer", sample(2, 1510), 0);
+    check_line(1510, 1510, 700, 0x0004);
+    check_record(2, 2, UNITS(700), UNITS(700), 1510, 1500, 0, 0, 1);
+    equals("the major loop's mark", MARK(1), 1);
+    equals("entry", sample(1, 1000), 0);
+    check_line(1100, 1000, 1730, 0x0002);
+}
+
+/* The mark stands through samples in Manual and refused ones of its loop, through the minor loop's samples, and another transfer
+ * to it; then one entry takes it off. */
+static void mark_kept(void) {
+    begin_pair("a mark is kept", 2, 1);
+    settle(3), store(KEXBARDI_ADDRESS(3, KEXBARDI_POINTER), 5);
+    equals("entry of loop 3", sample(3, 1700), 0);
+    equals("transfer", sample(2, 1510), 0);
+    store(0, 1);
+    for (int n = 0; n < 3; n++) {
+        equals("Manual", sample(1, 1000), 0);
+        check_line(1100, 1000, 1510, 0x0001);
+        equals("mark", MARK(1), 1);
+    }
+    equals("above full scale", sample(1, 4096), 9);
+    words[KEXBARDI_GAIN] = 0x000a;
+    equals("a digit", sample(1, 1000), 7);
+    words[KEXBARDI_GAIN] = 0x0200, words[KEXBARDI_RESET] = 0;
+    equals("a setting", sample(1, 1000), 8);
+    words[KEXBARDI_RESET] = 0x1000, records[KEXBARDI_FIELD_ERROR] = 65536;
+    equals("a number out of range", sample(1, 1000), 5);
+    records[KEXBARDI_FIELD_ERROR] = 0;
+    equals("the minor loop", sample(2, 1510), 0);
+    equals("mark", MARK(1), 1);
+    store(KEXBARDI_ADDRESS(3, KEXBARDI_MODE_1), 4);
+    equals("transfer of loop 3", sample(3, 1700), 0);
+    equals("mark", MARK(1), 1);
+    equals("Manual", sample(1, 1000), 0);
+    check_line(1100, 1000, 1700, 0x0001);
+    store(0, 2 | 8);
+    equals("Automatic, Bumpless II", sample(1, 1000), 0);
+    check_line(1100, 1000, 1920, 0x0002); /* 1,700 + 20 + 200 */
+    equals("mark", MARK(1), 0);
+    equals("Automatic goes on", sample(1, 1000), 0);
+    check_line(1100, 1000, 1940, 0x0002); /* 1,720 + 20 + 200 */
+    store(KEXBARDI_ADDRESS(3, KEXBARDI_MODE_1), 2), sample(3, 1700);
+    store(KEXBARDI_ADDRESS(3, KEXBARDI_MODE_1), 4), sample(3, 1700);
+    equals("marked again", MARK(1), 1);
+    equals("reset", reset(), 0);
+    equals("no mark at reset", MARK(1), 0);
+}
+
+/* A desk saved between the transfer and the major loop's entry, and loaded: it goes on as the first does. */
+static void mark_saved(void) {
+    static uint16_t saved_words[KEXBARDI_WORDS];
+    static int64_t saved_records[KEXBARDI_NUMBERS];
+    static struct lent first;
+    static const uint16_t raws[] = {1000, 990, 1020};
+    begin_pair("a save with a mark", 2, 1);
+    equals("transfer", sample(2, 1510), 0);
+    memcpy(saved_words, words, sizeof saved_words);
+    memcpy(saved_records, records, sizeof saved_records);
+    for (int n = 0; n < 3; n++) sample(1, raws[n]), sample(2, raws[n] + 500);
+    first = lent;
+    begin("a save with a mark, loaded");
+    memcpy(words, saved_words, sizeof saved_words);
+    memcpy(records, saved_records, sizeof saved_records);
+    equals("record", record(1), 0);
+    equals("mark", fields[KEXBARDI_FIELD_MARK], 1);
+    equals("entry", sample(1, raws[0]), 0);
+    check_line(1100, 1000, 1730, 0x0002); /* 1,510 + 20 + 200; with the mark lost, 2,240 */
+    sample(2, raws[0] + 500);
+    for (int n = 1; n < 3; n++) sample(1, raws[n]), sample(2, raws[n] + 500);
+    check("words", memcmp(words, first.words + GUARD, KEXBARDI_WORDS * sizeof *words) == 0);
+    check("records", memcmp(records, first.records + GUARD, KEXBARDI_NUMBERS * sizeof *records) == 0);
+}
+
+/* Q9: a transfer on two desks that agree on the minor loop, the major loop's two limits and nothing else. */
+static void transfer_depends(void) {
+    static struct lent first;
+    for (unsigned turn = 0; turn < 4; turn++) {
+        const unsigned minor = 5, major = 12, raw = turn == 1 ? 1399 : turn == 2 ? 1601 : 1510;
+        begin_pair("what a transfer depends on", minor, major);
+        *word_of(major, KEXBARDI_OUTPUT_LOW) = turn == 3 ? 1601 : 1400, *word_of(major, KEXBARDI_OUTPUT_HIGH) = 1600;
+        const struct lent kept = lent;
+        const uint8_t answer = sample(minor, raw);
+        equals("sample", answer, turn == 0 ? 0 : 11);
+        first = lent, lent = kept;
+        for (unsigned n = 0; n < KEXBARDI_WORDS; n++)
+            if (n / 32 != minor - 1 && n != 32 * (major - 1) + 24 && n != 32 * (major - 1) + 25) words[n] = (uint16_t)(4095 - n);
+        for (unsigned n = 0; n < KEXBARDI_NUMBERS; n++)
+            if (n / 14 != minor - 1) records[n] = INT64_MAX - n;
+        equals("the answer", sample(minor, raw), answer);
+        check("line", memcmp(lent.line, first.line, sizeof lent.line) == 0);
+        check("words of the loop",
+            memcmp(word_of(minor, 0), first.words + GUARD + KEXBARDI_ADDRESS(minor, 0), 32 * sizeof *words) == 0);
+        check("its record", memcmp(records + 14 * (minor - 1), first.records + GUARD + 14 * (minor - 1), 14 * sizeof *records) == 0);
+        if (answer == 0) equals("the major loop's output", *word_of(major, KEXBARDI_OUTPUT), 1510);
+        if (answer == 0) equals("the major loop's mark", MARK(major), 1);
+    }
+}
+
+/* A forecast with the change waiting takes raw PV 0 for p: refused where the major loop's low limit is above it, with a profile and
+ * without. Nothing is written in any case. */
+static void transfer_forecasts(void) {
+    begin_profile("a forecast of a transfer");
+    settle(2);
+    profile_sample(1000, 0x0100, WHOLE);
+    store(0, 4 | 2048), store(26, 37), store(32 + 24, 1);
+    equals("p below 1", forecast(1), 11);
+    store(32 + 24, 0);
+    forecast_is(1, WHOLE);
+    equals("no mark", MARK(2), 0);
+    equals("loop 2's output", words[37], 2000);
+    store(0, 4), store(32 + 24, 1);
+    equals("p below 1, no profile", forecast(1), 11);
+    store(32 + 24, 0);
+    forecast_is(1, 0);
+    store(32 + 24, 1), store(0, 4 | 8 | 2048);
+    forecast_is(1, WHOLE); /* Bumpless II */
+    store(0, 4 | 2048), store(26, 5);
+    equals("its own output", forecast(1), 11);
+    store(26, 600);
+    equals("no output", forecast(1), 11);
+    store(600, 4096);
+    equals("8 before 11", forecast(1), 8);
+    store(9, 0x000a);
+    equals("7 before 8", forecast(1), 7);
+    store(9, 0x1000), store(600, 0), store(26, 37), store(32 + 24, 0);
+    equals("transfer", sample(1, 1500), 0);
+    forecast_is(1, 164 + SOAK_2 + RAMP_3 + SOAK_4 + 1); /* Cascade now: 490 counts down from 1,500 by 3.00 */
+    store(26, 600);
+    forecast_is(1, 164 + SOAK_2 + RAMP_3 + SOAK_4 + 1); /* no change waits */
+}
+
 /* ---- records of garbage */
 
 static const int64_t ranges[KEXBARDI_FIELDS][2] = {{0, 2}, {-((int64_t)1 << 52), (int64_t)1 << 52}, {0, 65535 * (int64_t)262144},
-    {0, 65535}, {0, 65535}, {-65535, 65535}, {0, 1}, {0, 1}, {0, 16}, {0, 1}, {0, 1}, {0, 9999}, {0, 6000000}};
+    {0, 65535}, {0, 65535}, {-65535, 65535}, {0, 1}, {0, 1}, {0, 16}, {0, 1}, {0, 1}, {0, 9999}, {0, 6000000}, {0, 1}};
 
 /* One number of a loop's record takes a value out of its range: every call that reads the record is refused, and every
  * number stays. */
@@ -1222,10 +1656,10 @@ static void garbage_desks(void) {
 /* ---- loops alike */
 
 /* Thirteen samples of a loop in every mode and form, with alarms and a profile, a store before each; the lines go to
- * `lines`. */
+ * `lines`. None is a transfer, which asks for another loop (Q9). */
 static void same_calls(unsigned loop, uint16_t lines[13][4]) {
     static const uint16_t calls[13][3] = {/* offset, value, raw PV */
-        {KEXBARDI_RATE, 0x0050, 1000}, {KEXBARDI_SETPOINT, 1500, 1010}, {KEXBARDI_MODE_1, 0x7000 | 4, 1100},
+        {KEXBARDI_RATE, 0x0050, 1000}, {KEXBARDI_SETPOINT, 1500, 1010}, {KEXBARDI_MODE_1, 0x7000 | 4 | 8, 1100},
         {KEXBARDI_MODE_1, 0x7000 | 32, 1200}, {KEXBARDI_SETPOINT, 900, 1300}, {KEXBARDI_MODE_1, 0x7000 | 1, 3000},
         {KEXBARDI_OUTPUT, 700, 2900}, {KEXBARDI_MODE_1, 0x7000 | 2 | 8 | 16, 2500}, {KEXBARDI_GAIN, 0x0033, 0},
         {KEXBARDI_MODE_1, 0x7800 | 8 | 16, 100}, {KEXBARDI_PROFILE_FLAGS, 1, 150}, {KEXBARDI_CHANGE, 20, 200},
@@ -1301,7 +1735,7 @@ static void file_worked(void) {
     file_sample(17, 0);
 }
 
-/* The file is run with room for every answer. */
+/* The file is run with room for every answer; each is a character from '0' on, so 11 is ';'. */
 static void check_run(const char *expected) {
     size_t refusals = 0, records_read = strlen(expected);
     equals("run", run(ANSWERS), 0);
@@ -1332,6 +1766,25 @@ static void worked_file(void) {
     check_text(worked_lines);
 }
 
+/* By a file: a drum-level pair, and a transfer that is refused first. */
+static void transfer_file(void) {
+    static const unsigned tables[] = {0, 32};
+    begin("a transfer in a file");
+    for (int k = 0; k < 2; k++)
+        for (int n = 0; n < 6; n++) file_store(tables[k] + loop_a_stores[n][0], loop_a_stores[n][1]);
+    file_sample(1, 2048), file_sample(2, 1500), file_store(32, 4), file_sample(2, 1500);
+    file_store(58, 5), file_sample(2, 1500), file_sample(1, 2048), file_sample(2, 1500);
+    const size_t whole = size;
+    check_run("000000000000000;0000");
+    equals("loop 1's output", words[5], 1500);
+    equals("loop 2's output", words[37], 2000);
+    equals("the mark is off", MARK(1), 0);
+    equals("reset", reset(), 0);
+    size = whole - 7 - 7; /* without the last two samples */
+    check_run("000000000000000;00");
+    equals("the mark is on", MARK(1), 1);
+}
+
 /* What the file's bytes mean: 1, 2 and 3 only a file can meet. */
 static void file_refusals(void) {
     begin("rows of the table");
@@ -1342,13 +1795,16 @@ static void file_refusals(void) {
     file_sample(17, 0);
     file_store(3, 5);
     file_loop_a(), file_sample(1, 4096);
+    file_sample(1, 1000), file_store(0, 4), file_sample(1, 1000); /* the pointer is 0 */
     pair(6), byte(1);
-    check_run("807234600000091");
+    check_run("8072346000000900;1");
     equals("a record of no kind", answers[3], KEXBARDI_KIND);
     equals("a length that is not the kind's", answers[4], KEXBARDI_LENGTH);
-    equals("a record cut", answers[14], KEXBARDI_CUT);
+    equals("a transfer to no output", answers[16], KEXBARDI_TRANSFER);
+    equals("a record cut", answers[17], KEXBARDI_CUT);
     check_text("1 refused 8\n2 set 8 10\n3 refused 7\n4 refused 2\n5 refused 3\n6 refused 4\n7 refused 6\n8 set 5 2000\n9 set 25 4095\n"
-        "10 set 7 256\n11 set 8 512\n12 set 9 4096\n13 set 0 2\n14 refused 9\n15 refused 1\n15 records, 8 refused\n");
+        "10 set 7 256\n11 set 8 512\n12 set 9 4096\n13 set 0 2\n14 refused 9\n15 loop 1 sp 1000 pv 1000 out 2000 word 0002\n"
+        "16 set 0 4\n17 refused 11\n18 refused 1\n18 records, 9 refused\n");
     begin("a record that is none, in a file");
     settle(1), settle(2);
     records[KEXBARDI_FIELD_MODE] = 3;
@@ -1476,12 +1932,27 @@ int main(void) {
     manual();
     held_at_first();
     bias_words();
+    transfer_memory();
+    transfer_in_velocity();
+    transfer_of_a_root();
+    transfer_by_form();
+    transfer_pointed();
+    transfer_pairs();
+    transfer_pointers();
+    transfer_limits();
+    transfer_causes();
+    marks();
+    mark_kept();
+    mark_saved();
+    transfer_depends();
+    transfer_forecasts();
     garbage_numbers();
     garbage_neighbour();
     garbage_desks();
     alike();
     two_desks();
     worked_file();
+    transfer_file();
     file_refusals();
     small();
     answers_room();

@@ -35,10 +35,10 @@ static void check(const char *what, int holds) {
 /* ---- a desk and loop A, in plain numbers */
 
 static uint8_t store(uint64_t address, unsigned value) {
-    return kexbardi_store(words, 1024, records, 208, address, (uint16_t)value);
+    return kexbardi_store(words, 1024, records, 224, address, (uint16_t)value);
 }
 
-static uint8_t sample(uint64_t loop, uint64_t raw) { return kexbardi_sample(words, 1024, records, 208, loop, raw, line); }
+static uint8_t sample(uint64_t loop, uint64_t raw) { return kexbardi_sample(words, 1024, records, 224, loop, raw, line); }
 
 /* A word of the desk; -1 where the address has none. */
 static int64_t word(int64_t address) { return address >= 0 && address < 1024 ? words[address] : -1; }
@@ -49,7 +49,7 @@ static void begin(const char *name) {
     memset(records, 0xa5, sizeof records);
     memset(line, 0xa5, sizeof line);
     memset(fields, 0xa5, sizeof fields);
-    equals("reset", kexbardi_reset(words, 1024, records, 208), 0);
+    equals("reset", kexbardi_reset(words, 1024, records, 224), 0);
 }
 
 /* A store that has to be accepted. */
@@ -76,10 +76,11 @@ static void begin_line_9(const char *name) {
     put(2, 1500);
 }
 
-/* Alarm limits and the words of mode 1's other bits: without effect while those bits are off. */
+/* Alarm limits and the words of mode 1's other bits: without effect while those bits are off. The pointer leads to the output of
+ * loop 2, whose high limit is 4,095. */
 static void put_limits(void) {
     static const uint16_t stores[][2] = {{11, 100}, {12, 200}, {13, 3000}, {14, 3500}, {15, 400}, {16, 600}, {17, 99}, {18, 10},
-        {19, 501}, {26, 600}, {600, 1234}};
+        {19, 501}, {26, 37}, {37, 1234}, {57, 4095}};
     for (size_t n = 0; n < sizeof stores / sizeof *stores; n++) put(stores[n][0], stores[n][1]);
 }
 
@@ -97,15 +98,15 @@ static void status_of(uint64_t raw, unsigned status) {
     equals("status", line[3], status);
 }
 
-static void take_record(void) { equals("record", kexbardi_record(records, 208, 1, fields), 0); }
+static void take_record(void) { equals("record", kexbardi_record(records, 224, 1, fields), 0); }
 
 /* ---- versions */
 
-/* Header and archive are of one version. Saves of 4.0.0 and later may be loaded: the engine has no say in it. */
+/* Header and archive are of one version. Saves of 5.0.0 and later may be loaded: the engine has no say in it. */
 static void versions(void) {
     test = "versions";
     equals("KEXBARDI_VERSION", KEXBARDI_VERSION, kexbardi_version());
-    equals("KEXBARDI_OLDEST_SAVE", KEXBARDI_OLDEST_SAVE, 40000);
+    equals("KEXBARDI_OLDEST_SAVE", KEXBARDI_OLDEST_SAVE, 50000);
     check("the oldest save is not above the version", KEXBARDI_OLDEST_SAVE <= KEXBARDI_VERSION);
     equals("the major number of 3.0.0", KEXBARDI_MAJOR(30000), 3);
     equals("the major number of 3.99.99", KEXBARDI_MAJOR(39999), 3);
@@ -118,15 +119,15 @@ static void versions(void) {
 /* W1, N5, N6: the words have this length and no other; the last address is one below it. */
 static void desk_words(void) {
     begin("KEXBARDI_WORDS");
-    equals("the length", kexbardi_reset(words, KEXBARDI_WORDS, records, 208), 0);
-    equals("one less", kexbardi_reset(words, KEXBARDI_WORDS - 1, records, 208), 5);
-    equals("one more", kexbardi_reset(words, KEXBARDI_WORDS + 1, records, 208), 5);
+    equals("the length", kexbardi_reset(words, KEXBARDI_WORDS, records, 224), 0);
+    equals("one less", kexbardi_reset(words, KEXBARDI_WORDS - 1, records, 224), 5);
+    equals("one more", kexbardi_reset(words, KEXBARDI_WORDS + 1, records, 224), 5);
     equals("store in the last word", store(KEXBARDI_WORDS - 1, 77), 0);
     equals("word 1,023", word(1023), 77);
     equals("store behind it", store(KEXBARDI_WORDS, 77), 6);
 }
 
-/* H4, N5: the records have this length and no other, sixteen of thirteen numbers. */
+/* H4, N5: the records have this length and no other, sixteen of fourteen numbers. */
 static void desk_numbers(void) {
     begin("KEXBARDI_NUMBERS");
     equals("the length", kexbardi_reset(words, 1024, records, KEXBARDI_NUMBERS), 0);
@@ -142,9 +143,9 @@ static void loops(void) {
     settle(480); /* 32 x 15 */
     equals("the last loop", sample(KEXBARDI_LOOPS, 1000), 0);
     equals("its PV", word(483), 1000);
-    equals("its record", kexbardi_record(records, 208, KEXBARDI_LOOPS, fields), 0);
+    equals("its record", kexbardi_record(records, 224, KEXBARDI_LOOPS, fields), 0);
     equals("the one behind it", sample(KEXBARDI_LOOPS + 1, 1000), 4);
-    equals("the record behind it", kexbardi_record(records, 208, KEXBARDI_LOOPS + 1, fields), 4);
+    equals("the record behind it", kexbardi_record(records, 224, KEXBARDI_LOOPS + 1, fields), 4);
 }
 
 /* W1, N6: word 3 of each table is the engine's, and so are no words behind the tables. */
@@ -163,10 +164,10 @@ static void record_numbers(void) {
     settle(32);
     equals("loop 2", sample(2, 1000), 0);
     equals("its last PV", records[KEXBARDI_FIELDS + 3], 1000);
-    records[25] = 600; /* 13 + 12, the time of loop 2 */
+    records[27] = 1; /* 14 + 13, the mark of loop 2 */
     fields[KEXBARDI_FIELDS - 1] = fields[KEXBARDI_FIELDS] = -77;
-    equals("record", kexbardi_record(records, 208, 2, fields), 0);
-    equals("the last number", fields[KEXBARDI_FIELDS - 1], 600);
+    equals("record", kexbardi_record(records, 224, 2, fields), 0);
+    equals("the last number", fields[KEXBARDI_FIELDS - 1], 1);
     equals("the one behind it", fields[KEXBARDI_FIELDS], -77);
 }
 
@@ -376,8 +377,8 @@ static void mode(enum kexbardi_mode_1 request, unsigned bit, enum kexbardi_statu
 static void modes(void) {
     begin_loop_a("modes");
     put_limits();
-    mode(KEXBARDI_M1_AUTOMATIC, 0x0002, KEXBARDI_S_AUTOMATIC, KEXBARDI_AUTOMATIC, 1);
     mode(KEXBARDI_M1_CASCADE, 0x0004, KEXBARDI_S_CASCADE, KEXBARDI_CASCADE, 2);
+    mode(KEXBARDI_M1_AUTOMATIC, 0x0002, KEXBARDI_S_AUTOMATIC, KEXBARDI_AUTOMATIC, 1);
     mode(KEXBARDI_M1_MANUAL, 0x0001, KEXBARDI_S_MANUAL, KEXBARDI_MANUAL, 0);
 }
 
@@ -389,7 +390,7 @@ struct bit {
 
 /* M1, X3: a bit of mode 1 alone is stored before line 9. What the sample gives, with the limits above:
  * MANUAL         the output stays 2,000
- * CASCADE        the setpoint is word 600; not an entry: 2,000 + 468 + 46.8
+ * CASCADE        a transfer: the setpoint becomes the PV, and the output is the bias, 2,000
  * VELOCITY       the form changes, an entry: the setpoint becomes the PV and the output stays
  * ROOT           PV 2,024, e = 1,500 - 2,024 = -524: 2,000 - 1,048 - 104.8
  * SQUARED        e = 250,000/4,095 = 61: 2,000 + 122 + 12.2
@@ -401,7 +402,7 @@ struct bit {
 static const struct bit bits[] = {
     {"KEXBARDI_M1_MANUAL", KEXBARDI_M1_MANUAL, 0x0001, 1000, 1500, 1000, 2000, 0x0001},
     {"KEXBARDI_M1_AUTOMATIC", KEXBARDI_M1_AUTOMATIC, 0x0002, 1000, 1500, 1000, 3100, 0x0002},
-    {"KEXBARDI_M1_CASCADE", KEXBARDI_M1_CASCADE, 0x0004, 1000, 1234, 1000, 2515, 0x0004},
+    {"KEXBARDI_M1_CASCADE", KEXBARDI_M1_CASCADE, 0x0004, 1000, 1000, 1000, 2000, 0x0004},
     {"KEXBARDI_M1_BUMPLESS_II", KEXBARDI_M1_BUMPLESS_II, 0x0008, 1000, 1500, 1000, 3100, 0x0002},
     {"KEXBARDI_M1_REVERSE", KEXBARDI_M1_REVERSE, 0x0010, 1000, 1500, 1000, 900, 0x0002},
     {"KEXBARDI_M1_VELOCITY", KEXBARDI_M1_VELOCITY, 0x0020, 1000, 1000, 1000, 2000, 0x0002},
@@ -438,6 +439,19 @@ static void bumpless(void) {
     put(0, KEXBARDI_M1_AUTOMATIC | KEXBARDI_M1_BUMPLESS_II);
     sampled(1000, 1200, 1000, 2440, 0x0002);
     equals("mode 1 afterwards", word(0), 0x0008);
+}
+
+/* A13: from line 9 to Cascade, the pointer at loop 2's output, 1,234. Bumpless I makes setpoint and output 1,000; Bumpless II keeps
+ * both, and e = 234 gives 2,000 + 468 + 46.8. */
+static void bumpless_transfer(void) {
+    begin_line_9("KEXBARDI_M1_BUMPLESS_II, to Cascade");
+    put_limits(), put(0, KEXBARDI_M1_CASCADE);
+    sampled(1000, 1000, 1000, 2000, 0x0004);
+    equals("loop 2's output", word(37), 1000);
+    begin_line_9("KEXBARDI_M1_BUMPLESS_II, to Cascade");
+    put_limits(), put(0, KEXBARDI_M1_CASCADE | KEXBARDI_M1_BUMPLESS_II);
+    sampled(1000, 1234, 1000, 2515, 0x0004);
+    equals("loop 2's output", word(37), 1234);
 }
 
 /* A8, X2: line 9, then PV 0 and PV 1,500. The bias comes down to 1,095 at the limit; with freeze it stays 2,100. */
@@ -721,7 +735,7 @@ static void segment_of_flags(void) {
     equals("of a signed word", KEXBARDI_P_SEGMENT(garbage), 255);
 }
 
-/* H1: the last five numbers, all different. 1,002.5 and Jog, three seconds of the soak, Hold. */
+/* H1: the five numbers of the profile, all different. 1,002.5 and Jog, three seconds of the soak, Hold. */
 static void profile_fields(void) {
     begin_profile("the profile's numbers");
     moved(1002, 0x0100);
@@ -770,7 +784,7 @@ static void line_words(void) {
     uint16_t room[8];
     begin_loop_a("KEXBARDI_LINE_WORDS");
     for (int n = 0; n < 8; n++) room[n] = 0xa5a5;
-    equals("sample", kexbardi_sample(words, 1024, records, 208, 1, 1000, room), 0);
+    equals("sample", kexbardi_sample(words, 1024, records, 224, 1, 1000, room), 0);
     equals("the last word of the line", room[KEXBARDI_LINE_WORDS - 1], 0x0002);
     equals("the word behind it", room[KEXBARDI_LINE_WORDS], 0xa5a5);
 }
@@ -820,6 +834,21 @@ static void field_indices(void) {
     equals("KEXBARDI_FIELD_ERROR", fields[KEXBARDI_FIELD_ERROR], 400);
     equals("KEXBARDI_FIELD_VELOCITY", fields[KEXBARDI_FIELD_VELOCITY], 0);
     equals("KEXBARDI_FIELD_SAMPLED", fields[KEXBARDI_FIELD_SAMPLED], 1);
+}
+
+/* A13, H1: a transfer of loop 1 to loop 2, which was never sampled: of its fourteen numbers the mark alone is not 0. Its own sample
+ * in Automatic takes it off. */
+static void mark(void) {
+    begin_line_9("KEXBARDI_FIELD_MARK");
+    settle(32);
+    put(26, 37), put(0, 0x0004);
+    equals("before", records[14 + KEXBARDI_FIELD_MARK], 0);
+    sampled(1000, 1000, 1000, 2000, 0x0004);
+    equals("record", kexbardi_record(records, 224, 2, fields), 0);
+    equals("KEXBARDI_FIELD_MARK", fields[KEXBARDI_FIELD_MARK], 1);
+    equals("loop 2", sample(2, 1000), 0);
+    equals("record", kexbardi_record(records, 224, 2, fields), 0);
+    equals("KEXBARDI_FIELD_MARK afterwards", fields[KEXBARDI_FIELD_MARK], 0);
 }
 
 /* H3: before the first sample the record says so. */
@@ -976,13 +1005,13 @@ static void bcd_in_a_loop(void) {
 static void accepted(void) {
     static const uint8_t file[] = {0x06, 0x00, 0x01, 0x00, 0x05, 0x00, 0xd0, 0x07};
     begin_loop_a("KEXBARDI_ACCEPTED");
-    equals("reset", kexbardi_reset(words, 1024, records, 208), KEXBARDI_ACCEPTED);
+    equals("reset", kexbardi_reset(words, 1024, records, 224), KEXBARDI_ACCEPTED);
     settle(0);
     equals("store", store(2, 1500), KEXBARDI_ACCEPTED);
     equals("sample", sample(1, 1000), KEXBARDI_ACCEPTED);
-    equals("record", kexbardi_record(records, 208, 1, fields), KEXBARDI_ACCEPTED);
-    equals("forecast", kexbardi_forecast(words, 1024, records, 208, 1, &left), KEXBARDI_ACCEPTED);
-    equals("run", kexbardi_run(file, 8, words, 1024, records, 208, answers, 64, &count, &refused), KEXBARDI_ACCEPTED);
+    equals("record", kexbardi_record(records, 224, 1, fields), KEXBARDI_ACCEPTED);
+    equals("forecast", kexbardi_forecast(words, 1024, records, 224, 1, &left), KEXBARDI_ACCEPTED);
+    equals("run", kexbardi_run(file, 8, words, 1024, records, 224, answers, 64, &count, &refused), KEXBARDI_ACCEPTED);
     equals("its store", answers[0], KEXBARDI_ACCEPTED);
     equals("print", kexbardi_print(file, 8, out, 180, &text_length), KEXBARDI_ACCEPTED);
     equals("setup", kexbardi_setup(words, 1024, out, 7680, &text_length), KEXBARDI_ACCEPTED);
@@ -1009,7 +1038,7 @@ static void refused_in_files(void) {
     for (size_t n = 0; n < sizeof rows / sizeof *rows; n++) {
         const struct row *r = &rows[n];
         begin(r->name);
-        equals("run", kexbardi_run(r->file, r->length, words, 1024, records, 208, answers, 64, &count, &refused), 0);
+        equals("run", kexbardi_run(r->file, r->length, words, 1024, records, 224, answers, 64, &count, &refused), 0);
         equals("count", (int64_t)count, 1);
         equals("refused", (int64_t)refused, 1);
         equals("the answer", answers[0], r->number);
@@ -1023,7 +1052,7 @@ static void refused_calls(void) {
     equals("sample", sample(1, 0), KEXBARDI_SETTING);
     begin_loop_a("refused calls");
     equals("loop 17", sample(17, 1000), KEXBARDI_LOOP);
-    equals("loop 0", kexbardi_record(records, 208, 0, fields), KEXBARDI_LOOP);
+    equals("loop 0", kexbardi_record(records, 224, 0, fields), KEXBARDI_LOOP);
     equals("address 3", store(3, 5), KEXBARDI_STORE);
     equals("address 1,024", store(1024, 5), KEXBARDI_STORE);
     equals("raw PV 4,096", sample(1, 4096), KEXBARDI_ABOVE);
@@ -1035,8 +1064,8 @@ static void refused_calls(void) {
 
 static void refused_memory(void) {
     begin_loop_a("KEXBARDI_MEMORY");
-    equals("1,023 words", kexbardi_reset(words, 1023, records, 208), KEXBARDI_MEMORY);
-    equals("1,023 words in plain numbers", kexbardi_reset(words, 1023, records, 208), 5);
+    equals("1,023 words", kexbardi_reset(words, 1023, records, 224), KEXBARDI_MEMORY);
+    equals("1,023 words in plain numbers", kexbardi_reset(words, 1023, records, 224), 5);
     equals("no room", kexbardi_print(answers, 0, out, 0, &text_length), KEXBARDI_MEMORY);
     equals("a setup of 1,023 words", kexbardi_setup(words, 1023, out, 7680, &text_length), KEXBARDI_MEMORY);
     records[0] = 3; /* there are modes 0, 1 and 2 */
@@ -1050,6 +1079,18 @@ static void refused_room(void) {
     equals("47 bytes in plain numbers", kexbardi_setup(words, 1024, out, 47, &text_length), 10);
     equals("48 bytes", kexbardi_setup(words, 1024, out, 48, &text_length), 0);
     equals("its length", (int64_t)text_length, 48);
+}
+
+/* N11: X1's line 7, then Cascade with the pointer at 0; and with it at loop 2's output, whose limits are 0 and 0. */
+static void refused_transfer(void) {
+    begin_loop_a("KEXBARDI_TRANSFER");
+    equals("line 7", sample(1, 1000), 0);
+    put(0, 0x0004);
+    equals("no output", sample(1, 1000), KEXBARDI_TRANSFER);
+    equals("no output in plain numbers", sample(1, 1000), 11);
+    put(26, 37);
+    equals("outside the limits", sample(1, 1000), KEXBARDI_TRANSFER);
+    equals("inside them", sample(1, 0), 0);
 }
 
 /* ---- setups */
@@ -1147,6 +1188,7 @@ int main(void) {
     modes();
     mode_1_bits();
     bumpless();
+    bumpless_transfer();
     freezes();
     velocity();
     reset_minutes();
@@ -1167,6 +1209,7 @@ int main(void) {
     line_words();
     free_words();
     field_indices();
+    mark();
     unsampled();
     units();
     half_a_count();
@@ -1184,6 +1227,7 @@ int main(void) {
     refused_calls();
     refused_memory();
     refused_room();
+    refused_transfer();
     setup_room();
     print_room();
     print_room_values();

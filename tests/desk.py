@@ -1,8 +1,8 @@
 """A desk in Python, by ctypes alone: python3 tests/desk.py LIBRARY HEADER
 
-It loads the shared library, holds its version and its sizes to the header's, tries the refusals 4, 5, 6 and 10, runs loop A and
-writes its setup file, and then runs a profile beside its forecast. It prints what the program `drill` prints of
-examples/loop-a.drill, and fails where a call answers otherwise than the header says.
+It loads the shared library, holds its version and its sizes to the header's, tries the refusals 4, 5, 6, 10 and 11, runs loop A
+and writes its setup file, then runs a profile beside its forecast, and a drum-level pair into Cascade. It prints what the program
+`drill` prints of examples/loop-a.drill, and fails where a call answers otherwise than the header says.
 """
 
 import ctypes
@@ -15,9 +15,9 @@ with open(sys.argv[2], encoding="ascii") as header:
     defined = {name: int(value) for name, value in re.findall(r"^#define KEXBARDI_(\w+) (\d+)\b", header.read(), re.M)}
 
 Words = c_uint16 * 1024
-Records = c_int64 * 208
+Records = c_int64 * 224
 Line = c_uint16 * 4
-Fields = c_int64 * 13
+Fields = c_int64 * 14
 Samples = c_uint64 * 1
 File = c_uint8 * 7680
 Length = c_size_t * 1
@@ -73,11 +73,11 @@ for loop in (0, 17, 255, 257, 2**64 - 15):
     refused(4, sample, *desk, loop, 0, line)
     refused(4, record, records, len(records), loop, fields)
     refused(4, forecast, *desk, loop, samples)
-refused(5, reset, words, 1023, records, 208)
-refused(5, store, words, 1024, records, 207, 5, 2000)
-refused(5, sample, words, 1024, records, 209, 1, 0, line)
-refused(5, forecast, words, 1024, records, 128, 1, samples)
-for at, above in ((7, 2), (8, 17), (12, 6000001)):
+refused(5, reset, words, 1023, records, 224)
+refused(5, store, words, 1024, records, 223, 5, 2000)
+refused(5, sample, words, 1024, records, 225, 1, 0, line)
+refused(5, forecast, words, 1024, records, 208, 1, samples)
+for at, above in ((7, 2), (8, 17), (12, 6000001), (13, 2)):
     records[at] = above
     refused(5, sample, *desk, 1, 0, line)
     refused(5, record, records, len(records), 1, fields)
@@ -125,4 +125,23 @@ expected = [(1497, 0x0100), (1494, 0x0100), (1491, 0x0100)] + [(1490, 0x0200)] *
 holds("the setpoints and word 27", shown, expected)
 holds("the forecast at the end", (forecast(*desk, 1, samples), samples[0]), (0, 0))
 holds("the record", record(records, len(records), 1, fields), 0)
-holds("a complete profile", fields[8:], [0, 0, 1, 0, 0])
+holds("a complete profile", fields[8:], [0, 0, 1, 0, 0, 0])
+
+# A drum-level pair: loop 1 the level, loop 2 the flow, both at their setpoints. Cascade does not move the valve, 2,000; the level's
+# output becomes the flow, 1,500. It goes on from there: a level 50 below its setpoint adds 2.00 x 50, and 10 by reset.
+holds("reset", reset(*desk), 0)
+for table in (0, 32):
+    for address, value in STORES:
+        holds("a store of a pair", store(*desk, table + address, value), 0)
+holds("the level", (sample(*desk, 1, 2048, line), *line), (0, 2048, 2048, 2000, 0x0002))
+holds("the flow", (sample(*desk, 2, 1500, line), *line), (0, 1500, 1500, 2000, 0x0002))
+holds("Cascade is requested", store(*desk, 32, 4), 0)
+refused(11, sample, *desk, 2, 1500, line)
+refused(11, forecast, *desk, 2, samples)
+holds("the pointer", store(*desk, 58, 5), 0)
+holds("the transfer", (sample(*desk, 2, 1500, line), *line), (0, 1500, 1500, 2000, 0x0004))
+holds("the level's output and mark", (words[5], records[13]), (1500, 1))
+holds("the record", (record(records, len(records), 1, fields), fields[13]), (0, 1))
+holds("the level goes on", (sample(*desk, 1, 1998, line), *line), (0, 2048, 1998, 1610, 0x0002))
+holds("its mark is off", records[13], 0)
+holds("the flow follows", (sample(*desk, 2, 1610, line), *line), (0, 1610, 1610, 2000, 0x0004))

@@ -11,6 +11,7 @@
 #define SPARE 8 /* elements behind a desk's memory, for lengths that are too great */
 #define LONGEST 2000
 #define ANSWERS 400
+#define HIGHEST KEXBARDI_TRANSFER /* of the refusals */
 
 /* what one engine works on */
 struct desk {
@@ -24,8 +25,8 @@ struct desk {
 
 static struct desk ours, plain;
 static uint64_t seed;
-static unsigned long calls, wanted, accepted, refusals[11], setup_refusals[11];
-static unsigned long wide_refusals[11]; /* of calls with a number that an 8- or 16-bit parameter would cut */
+static unsigned long calls, wanted, accepted, refusals[HIGHEST + 1], setup_refusals[HIGHEST + 1];
+static unsigned long wide_refusals[HIGHEST + 1]; /* of calls with a number that an 8- or 16-bit parameter would cut */
 static uint8_t file[LONGEST];
 static size_t size;
 
@@ -36,7 +37,11 @@ enum feature {
     START, RESTART, HOLD, RESUME, JOG, JOG_HELD, JOG_LAST, NO_EFFECT, SEVERAL,
     UP, DOWN, FRACTION, EXACT, OVERSHOT, ALREADY_THERE, SLOPE_0_FIRST, SLOPE_0_LATER, SOAKS, SOAK_ENDS, DURATION_0, COMPLETES,
     HELD_RAMP, HELD_SOAK, HELD_NOTHING, DEVIATES, JUST_ALLOWED, NO_DEVIATION, IN_MANUAL, WAITS, TAKEN_OFF, POINTER_LOST, BELOW, ABOVE,
-    FIRST_TABLE, LAST_TABLE, OVERLAP, ENTRY_RUNNING, ENTRY_START, FEATURES
+    FIRST_TABLE, LAST_TABLE, OVERLAP, ENTRY_RUNNING, ENTRY_START,
+    TRANSFERS, TO_MANUAL, TO_AUTOMATIC, TO_CASCADE, TO_VELOCITY, TO_FREEZE, TO_MARKED, TO_SPOILT, TO_SPOILT_MARK, AT_LOW, AT_HIGH,
+    OF_VELOCITY, OF_CHANGED_FORM, OF_ROOT, OF_RUNNING, OF_MARKED, NONE_BY_II, NONE_FROM_MANUAL, NONE_IN_CASCADE,
+    MARK_ALONE, MARK_KEEPS_SETPOINT, MARK_RUNNING, MARK_IN_CASCADE, MARK_IN_VELOCITY, MARK_AND_FREEZE, MARK_AND_LIMIT, MARK_FROM_MANUAL,
+    MARK_AND_FORM, MARK_IN_MANUAL, FEATURES
 };
 static const char *const feature_names[FEATURES] = {"Manual", "Automatic", "Cascade", "position", "velocity", "12 bits", "15 bits",
     "16 bits", "freeze at a limit", "root down", "root up", "root at r x r + r", "squared", "inside the deadband", "reverse",
@@ -47,15 +52,34 @@ static const char *const feature_names[FEATURES] = {"Manual", "Automatic", "Casc
     "slope 0 later", "soak goes on", "soak ends", "duration 0", "segment 16 ends",
     "held in a ramp", "held in a soak", "held and no profile", "soak deviation", "at the soak deviation", "deviation 0",
     "profile in Manual", "profile waits in Cascade", "bit 11 taken off in a run", "pointer lost in a run", "pointer below",
-    "pointer above", "table at 512", "table at 992", "table across others", "entry while running", "entry with Start waiting"};
+    "pointer above", "table at 512", "table at 992", "table across others", "entry while running", "entry with Start waiting",
+    "transfer", "transfer to Manual", "transfer to Automatic", "transfer to Cascade", "transfer to velocity form", "transfer to freeze",
+    "transfer to a marked loop", "transfer to a record out of range", "transfer to a mark out of range", "transfer at the low limit",
+    "transfer at the high limit",
+    "transfer in velocity form", "transfer with another form", "transfer with the root", "transfer while a profile runs",
+    "transfer of a marked loop", "Automatic to Cascade by Bumpless II", "Manual to Cascade", "Cascade asked for in Cascade",
+    "entry by the mark alone", "the mark forces no setpoint", "the mark while a profile runs", "the mark in Cascade",
+    "the mark in velocity form", "the mark with freeze", "the mark and an output outside its limits", "the mark and from Manual",
+    "the mark and another form", "the mark kept in Manual"};
 static unsigned long features[FEATURES], segments[KEXBARDI_SEGMENTS + 1]; /* samples that moved in a segment */
 
-/* what a table is refused with where nothing else is wrong, and what forecasts answer */
-enum reached { TABLE_DIGIT, TABLE_END, SOME, NONE, FAR, WHILE_HELD, WITH_COMMAND, IN_CASCADE, ABOVE_FULL, REACHED };
+/* what a table is refused with where nothing else is wrong, what forecasts answer, and why transfers are refused, with the root off
+ * where p counts */
+enum reached {
+    TABLE_DIGIT, TABLE_END, SOME, NONE, FAR, WHILE_HELD, WITH_COMMAND, IN_CASCADE, ABOVE_FULL,
+    OWN_OUTPUT, BESIDE_OUTPUT, UPPER_OUTPUT, NO_OUTPUT, LOW, JUST_LOW, HIGH, JUST_HIGH, BY_ROOT, BEHIND_8, BEHIND_9, MARK_STAYS,
+    FORECAST_POINTER, FORECAST_LIMIT, FORECAST_TRANSFER, BY_FILE, REACHED
+};
 static const char *const reached_names[REACHED] = {"refused with 7 for the table alone", "refused with 8 for the table alone",
     "forecast above 0", "forecast 0", "forecast above a million", "forecast in a hold", "forecast with a command waiting",
-    "forecast in Cascade", "forecast from a setpoint above full scale"};
-static unsigned long reached[REACHED], forecast_refusals[11];
+    "forecast in Cascade", "forecast from a setpoint above full scale",
+    "refused with 11 for the own output", "refused with 11 for a word next to an output", "refused with 11 for 512 above an output",
+    "refused with 11 for another word", "refused with 11 for the low limit", "refused with 11 for one count below",
+    "refused with 11 for the high limit", "refused with 11 for one count above", "refused with 11 with the root on",
+    "refused with 8 before 11", "refused with 9 before 11", "mark kept by a refused sample",
+    "forecast refused with 11 for the pointer", "forecast refused with 11 for the low limit", "forecast with a transfer waiting",
+    "mark set by a file"};
+static unsigned long reached[REACHED], forecast_refusals[HIGHEST + 1];
 
 /* 0 to below - 1 */
 static unsigned any(unsigned below) {
@@ -93,7 +117,7 @@ static void compare(const char *call, uint8_t a, uint8_t b) {
         printf("call %lu, %s: answers %u, plain engine %u\n", calls, call, a, b);
         exit(1);
     }
-    if (a > 10) differ(call, "numbers of refusals");
+    if (a > HIGHEST) differ(call, "numbers of refusals");
     refusals[a]++;
     if (memcmp(ours.words, plain.words, sizeof ours.words) != 0) differ_at(call);
     if (memcmp(ours.records, plain.records, sizeof ours.records) != 0) differ_at(call);
@@ -149,6 +173,34 @@ static unsigned mode_1(void) {
 static unsigned full_scale(unsigned mode_2) { return mode_2 & 512 ? 65535 : mode_2 & 2 ? 32767 : 4095; }
 
 typedef void writer(unsigned address, unsigned value);
+
+static unsigned output_of(unsigned loop) { return KEXBARDI_ADDRESS(loop, KEXBARDI_OUTPUT); }
+
+/* the output word of any loop but this */
+static unsigned other_output(unsigned loop) { return output_of(1 + (loop + any(KEXBARDI_LOOPS - 1)) % KEXBARDI_LOOPS); }
+
+/* Mostly another loop's output word or word 600; else the own one, one next to an output or 512 above one, or any. */
+static unsigned pointer(unsigned loop) {
+    switch (any(16)) {
+    case 0: return output_of(loop);
+    case 1: return other_output(loop) - 1 + 2 * any(2);
+    case 2: return 512 + other_output(loop);
+    case 3: return any(4) ? any(1024) : 1024 + (any(4) ? other_output(loop) : any(64512));
+    case 4: case 5: case 6: return 600;
+    default: return other_output(loop);
+    }
+}
+
+/* the loop whose output word a loop's pointer names, other than the loop; or 0 (A13) */
+static unsigned major_of(unsigned loop, const uint16_t *w) {
+    unsigned major = w[KEXBARDI_POINTER] / KEXBARDI_LOOP_WORDS + 1;
+    return major <= KEXBARDI_LOOPS && major != loop && w[KEXBARDI_POINTER] == output_of(major) ? major : 0;
+}
+
+static int is_transfer(const uint16_t *w, const int64_t *record) {
+    return record[KEXBARDI_FIELD_MODE] == KEXBARDI_AUTOMATIC && (w[0] & KEXBARDI_M1_REQUESTS) == KEXBARDI_M1_CASCADE
+        && !(w[0] & KEXBARDI_M1_BUMPLESS_II);
+}
 
 static int good_address(unsigned table) { return table >= KEXBARDI_TABLE_FIRST && table <= KEXBARDI_TABLE_LAST; }
 
@@ -209,7 +261,7 @@ static unsigned settle(writer *write, unsigned loop) {
     write(base + KEXBARDI_DEADBAND, any(full / 8));
     write(base + KEXBARDI_OUTPUT_LOW, low);
     write(base + KEXBARDI_OUTPUT_HIGH, low + any(full - low + 1));
-    write(base + KEXBARDI_POINTER, any(4) ? 600 : any(1024));
+    write(base + KEXBARDI_POINTER, pointer(loop));
     settle_profile(write, loop, full, period, setpoint);
     return full;
 }
@@ -271,7 +323,7 @@ static void change_profile(writer *write, unsigned loop) {
 /* a setting changed, now and then to what is refused */
 static void change(writer *write, unsigned loop) {
     unsigned base = KEXBARDI_ADDRESS(loop, 0), full = full_scale(ours.words[base + KEXBARDI_MODE_2]);
-    switch (any(22)) {
+    switch (any(23)) {
     case 0: write(base + any(32), any(65536)); break;
     case 1: write(any(1100), any(65536)); break;
     case 2: case 3: case 4: write(base + KEXBARDI_SETPOINT, any(full + 1)); break;
@@ -283,6 +335,7 @@ static void change(writer *write, unsigned loop) {
     case 12: change_to_edge(write, base, full); break;
     case 13: case 14: write(base + KEXBARDI_MODE_1, (ours.words[base + KEXBARDI_MODE_1] & ~7u) | 1u << any(3)); break;
     case 15: case 16: case 17: case 18: change_profile(write, loop); break;
+    case 19: write(base + KEXBARDI_POINTER, pointer(loop)); break;
     default: write(base + KEXBARDI_MODE_1, mode_1()); break;
     }
 }
@@ -296,7 +349,7 @@ static void write_record(unsigned loop) {
         once_in(4) ? most_output - any(3) : llabs(any64() % most_output),
         any(65536), any(65536), (int64_t)any(131071) - 65535, any(2), any(2),
         any(2) ? 16 * any(2) : 1 + any(16), any(2), once_in(4), once_in(4) ? 9999 * any(2) : any(10000),
-        once_in(4) ? 6000000 * any(2) : any(any(2) ? 20000 : 6000001)};
+        once_in(4) ? 6000000 * any(2) : any(any(2) ? 20000 : 6000001), any(2)};
     for (unsigned n = 0; n < KEXBARDI_FIELDS; n++)
         if (n == only || only >= KEXBARDI_FIELDS) write_number(at + n, numbers[n]);
 }
@@ -305,7 +358,7 @@ static void write_record(unsigned loop) {
 static void spoil_record(unsigned loop) {
     static const int64_t near[KEXBARDI_FIELDS][2] = {{-1, 3}, {-((int64_t)1 << 52) - 1, ((int64_t)1 << 52) + 1},
         {-1, 65535 * (int64_t)262144 + 1}, {-1, 65536}, {-1, 65536}, {-65536, 65536}, {-1, 2}, {-1, 2}, {-1, 17}, {-1, 2}, {-1, 2},
-        {-1, 10000}, {-1, 6000001}};
+        {-1, 10000}, {-1, 6000001}, {-1, 2}};
     unsigned field = any(KEXBARDI_FIELDS), at = KEXBARDI_FIELDS * (loop - 1) + field;
     if (once_in(2)) write_number(at, near[field][any(2)]);
     else write_number(at, once_in(3) ? INT64_MIN : once_in(3) ? INT64_MAX : any64());
@@ -339,11 +392,21 @@ static void count_features(unsigned mode_1, const uint16_t *w, const int64_t *re
     features[INSIDE] += working && !at_limit;
 }
 
-/* a loop's words and record as they stood before a sample */
+/* a loop's words and record as they stood before a sample; and the output and record of its major loop, where there is one */
 struct former {
-    uint16_t words[KEXBARDI_LOOP_WORDS];
-    int64_t record[KEXBARDI_FIELDS];
+    unsigned major;
+    uint16_t words[KEXBARDI_LOOP_WORDS], output;
+    int64_t record[KEXBARDI_FIELDS], major_record[KEXBARDI_FIELDS];
 };
+
+static void take_former(struct former *former, unsigned loop) {
+    memcpy(former->words, ours.words + KEXBARDI_ADDRESS(loop, 0), sizeof former->words);
+    memcpy(former->record, ours.records + KEXBARDI_FIELDS * (loop - 1), sizeof former->record);
+    former->major = major_of(loop, former->words);
+    unsigned of = former->major ? former->major : loop;
+    former->output = ours.words[output_of(of)];
+    memcpy(former->major_record, ours.records + KEXBARDI_FIELDS * (of - 1), sizeof former->major_record);
+}
 
 static void count_command(const struct former *former, unsigned commands) {
     int64_t segment = former->record[KEXBARDI_FIELD_SEGMENT], held = former->record[KEXBARDI_FIELD_HOLD];
@@ -422,6 +485,100 @@ static void count_profile_features(const struct former *former, const uint16_t *
     if (status & KEXBARDI_S_AUTOMATIC && !(w[0] & KEXBARDI_M1_BUMPLESS_II)) count_entry(former, w);
 }
 
+static int is_running(const struct former *former) {
+    return former->record[KEXBARDI_FIELD_SEGMENT] > 0 && former->words[0] & KEXBARDI_M1_PROFILE
+        && good_address(former->words[KEXBARDI_PROFILE_TABLE]);
+}
+
+static int other_form(const struct former *former) {
+    return former->record[KEXBARDI_FIELD_VELOCITY] != ((former->words[0] & KEXBARDI_M1_VELOCITY) != 0);
+}
+
+/* the mark of a loop as it stands */
+static int64_t mark_of(unsigned loop) { return ours.records[KEXBARDI_FIELDS * (loop - 1) + KEXBARDI_FIELD_MARK]; }
+
+/* an accepted transfer that has moved the major loop's output */
+static void count_transfer(const struct former *former, unsigned p) {
+    const uint16_t *major = ours.words + KEXBARDI_ADDRESS(former->major, 0);
+    int64_t mode = former->major_record[KEXBARDI_FIELD_MODE], mark = former->major_record[KEXBARDI_FIELD_MARK];
+    int64_t fields[KEXBARDI_FIELDS];
+    features[TRANSFERS] += major[KEXBARDI_OUTPUT] == p && mark_of(former->major) == 1;
+    if (mode >= KEXBARDI_MANUAL && mode <= KEXBARDI_CASCADE) features[TO_MANUAL + mode]++;
+    features[TO_VELOCITY] += (major[0] & KEXBARDI_M1_VELOCITY) != 0;
+    features[TO_FREEZE] += (major[0] & KEXBARDI_M1_FREEZE) != 0;
+    features[TO_MARKED] += mark == 1;
+    features[TO_SPOILT] += plain_record(plain.records, KEXBARDI_NUMBERS, former->major, fields) == 5;
+    features[TO_SPOILT_MARK] += mark < 0 || mark > 1;
+    features[AT_LOW] += p == major[KEXBARDI_OUTPUT_LOW];
+    features[AT_HIGH] += p == major[KEXBARDI_OUTPUT_HIGH];
+    features[OF_VELOCITY] += (former->words[0] & KEXBARDI_M1_VELOCITY) != 0;
+    features[OF_CHANGED_FORM] += other_form(former);
+    features[OF_ROOT] += (former->words[0] & KEXBARDI_M1_ROOT) != 0;
+    features[OF_RUNNING] += is_running(former);
+    features[OF_MARKED] += former->record[KEXBARDI_FIELD_MARK] == 1;
+}
+
+/* in Cascade, the major loop's output not p: no transfer */
+static void count_no_transfer(const struct former *former) {
+    int64_t mode = former->record[KEXBARDI_FIELD_MODE];
+    features[NONE_BY_II] += mode == KEXBARDI_AUTOMATIC;
+    if (former->words[0] & KEXBARDI_M1_BUMPLESS_II) return;
+    features[NONE_FROM_MANUAL] += mode == KEXBARDI_MANUAL;
+    features[NONE_IN_CASCADE] += mode == KEXBARDI_CASCADE && former->words[0] & KEXBARDI_M1_CASCADE;
+}
+
+/* an accepted sample of a marked loop; the mark alone counts where the output was another */
+static void count_mark(const struct former *former, const uint16_t *w, int64_t mark) {
+    unsigned mode_1 = former->words[0], output = former->words[KEXBARDI_OUTPUT], status = w[KEXBARDI_STATUS];
+    int from_manual = former->record[KEXBARDI_FIELD_MODE] == KEXBARDI_MANUAL, form = other_form(former), running = is_running(former);
+    features[MARK_IN_MANUAL] += status & KEXBARDI_S_MANUAL && mark == 1;
+    if (status & KEXBARDI_S_MANUAL) return;
+    features[MARK_FROM_MANUAL] += from_manual;
+    features[MARK_AND_FORM] += form && !from_manual;
+    if (from_manual || form || former->record[KEXBARDI_FIELD_OUTPUT] == (int64_t)output * KEXBARDI_UNITS) return;
+    features[MARK_ALONE] += mark == 0;
+    features[MARK_RUNNING] += running && status & KEXBARDI_S_AUTOMATIC;
+    features[MARK_KEEPS_SETPOINT] += !running && status & KEXBARDI_S_AUTOMATIC && !(mode_1 & KEXBARDI_M1_BUMPLESS_II)
+        && w[KEXBARDI_SETPOINT] != w[KEXBARDI_PV];
+    features[MARK_IN_CASCADE] += (status & KEXBARDI_S_CASCADE) != 0;
+    features[MARK_IN_VELOCITY] += (mode_1 & KEXBARDI_M1_VELOCITY) != 0;
+    features[MARK_AND_FREEZE] += (mode_1 & KEXBARDI_M1_FREEZE) != 0;
+    features[MARK_AND_LIMIT] += output < w[KEXBARDI_OUTPUT_LOW] || output > w[KEXBARDI_OUTPUT_HIGH];
+}
+
+static void count_cascade_features(unsigned loop, const struct former *former, const uint16_t *w) {
+    if (former->major && former->output != w[KEXBARDI_PV]) {
+        if (is_transfer(former->words, former->record)) count_transfer(former, w[KEXBARDI_PV]);
+        else if (w[KEXBARDI_STATUS] & KEXBARDI_S_CASCADE) count_no_transfer(former);
+    }
+    if (former->record[KEXBARDI_FIELD_MARK] == 1) count_mark(former, w, mark_of(loop));
+}
+
+/* why the pointer of a transfer that was refused with 11 is wrong */
+static enum reached wrong_pointer(unsigned loop, unsigned pointer) {
+    unsigned at = pointer % KEXBARDI_LOOP_WORDS;
+    if (pointer == output_of(loop)) return OWN_OUTPUT;
+    if (pointer >= 512) return at == KEXBARDI_OUTPUT ? UPPER_OUTPUT : NO_OUTPUT;
+    return at == KEXBARDI_OUTPUT - 1 || at == KEXBARDI_OUTPUT + 1 ? BESIDE_OUTPUT : NO_OUTPUT;
+}
+
+/* A transfer that was refused with 8, 9 or 11. */
+static void count_transfer_refusal(uint8_t answer, unsigned loop, const struct former *former, uint64_t raw) {
+    const uint16_t *major = ours.words + (former->major ? KEXBARDI_ADDRESS(former->major, 0) : 0);
+    uint64_t low = major[KEXBARDI_OUTPUT_LOW], high = major[KEXBARDI_OUTPUT_HIGH];
+    reached[BEHIND_8] += answer == 8 && !former->major && former->words[KEXBARDI_POINTER] < KEXBARDI_WORDS;
+    reached[BEHIND_9] += answer == 9 && (!former->major || raw > high);
+    if (answer != 11) return;
+    if (!former->major) reached[wrong_pointer(loop, former->words[KEXBARDI_POINTER])]++;
+    else if (former->words[0] & KEXBARDI_M1_ROOT) reached[BY_ROOT]++;
+    else {
+        reached[LOW] += raw < low;
+        reached[JUST_LOW] += raw + 1 == low;
+        reached[HIGH] += raw > high;
+        reached[JUST_HIGH] += raw == high + 1;
+    }
+}
+
 /* A sample that was refused with 7 or 8 while the profile has a table: whether without the profile it would not have been. */
 static void count_refusal(uint8_t answer, unsigned loop, uint64_t raw) {
     static struct desk without;
@@ -440,10 +597,22 @@ static unsigned raw_near_half(unsigned full) {
     return (full == 65535 ? raws_16 : full == 32767 ? raws_15 : raws_12)[any(4)];
 }
 
+/* A raw PV for a transfer: p is one of the major loop's output limits, next to it, between the two, or above full scale. With the
+ * root on p lies near these. */
+static unsigned raw_for_transfer(const uint16_t *w, const uint16_t *major, int full) {
+    int low = major[KEXBARDI_OUTPUT_LOW], high = major[KEXBARDI_OUTPUT_HIGH], p = low + (int)any((unsigned)abs(high - low) + 1);
+    if (once_in(30)) return (unsigned)full + 1;
+    if (once_in(4)) p = any(2) ? high + (int)any(2) : low - (int)any(2);
+    p = p < 0 ? 0 : p > full ? full : p;
+    return w[0] & KEXBARDI_M1_ROOT ? (unsigned)p * (unsigned)p / (unsigned)full : (unsigned)p;
+}
+
 /* The next raw PV: mostly on its way to the setpoint, else any; with the root on now and then one whose root lies next to
- * r + 1/2; rarely above full scale. */
-static unsigned raw_pv(const uint16_t *w) {
+ * r + 1/2; rarely above full scale. Where a transfer waits, mostly one for it. */
+static unsigned raw_pv(const uint16_t *w, const struct former *former) {
     int full = (int)full_scale(w[1]), raw = w[3] + (w[2] - w[3]) / 4 + (int)any(41) - 20;
+    if (former->major && is_transfer(w, former->record) && any(8))
+        return raw_for_transfer(w, ours.words + KEXBARDI_ADDRESS(former->major, 0), full);
     if (once_in(100)) return any(2) ? any(65536) : (unsigned)full + any(2);
     if (w[0] & KEXBARDI_M1_ROOT && once_in(10)) return raw_near_half((unsigned)full);
     if (once_in(6)) return any((unsigned)full + 1);
@@ -454,11 +623,11 @@ static unsigned raw_pv(const uint16_t *w) {
 /* Answers the refusal. */
 static uint8_t sample(unsigned number) {
     uint64_t loop = widened(number, 8);
-    const uint16_t *w = ours.words + KEXBARDI_LOOP_WORDS * ((loop - 1) % KEXBARDI_LOOPS);
+    unsigned known = (unsigned)((loop - 1) % KEXBARDI_LOOPS) + 1;
+    const uint16_t *w = ours.words + KEXBARDI_ADDRESS(known, 0);
     struct former former;
-    memcpy(former.words, w, sizeof former.words);
-    memcpy(former.record, ours.records + KEXBARDI_FIELDS * ((loop - 1) % KEXBARDI_LOOPS), sizeof former.record);
-    uint64_t raw = widened(raw_pv(w), 16);
+    take_former(&former, known);
+    uint64_t raw = widened(raw_pv(w, &former), 16);
     size_t words = length_of(KEXBARDI_WORDS), records = length_of(KEXBARDI_NUMBERS);
     uint8_t a = kexbardi_sample(ours.words, words, ours.records, records, loop, raw, ours.line);
     compare("sample", a, plain_sample(plain.words, words, plain.records, records, loop, raw, plain.line));
@@ -468,14 +637,18 @@ static uint8_t sample(unsigned number) {
         count_features(former.words[0], w, ours.records + KEXBARDI_FIELDS * (loop - 1), ours.line[KEXBARDI_LINE_SETPOINT],
             ours.line[KEXBARDI_LINE_PV], raw);
         count_profile_features(&former, w);
+        count_cascade_features(known, &former, w);
     }
-    if (a == 7 || a == 8) count_refusal(a, (unsigned)loop, raw);
+    if (a == 7 || a == 8) count_refusal(a, known, raw);
+    if (a >= 8 && is_transfer(former.words, former.record)) count_transfer_refusal(a, known, &former, raw);
+    if (a >= 7) reached[MARK_STAYS] += mark_of(known) == 1;
     return a;
 }
 
 /* A forecast that was accepted: from what state. */
 static void count_forecast(const uint16_t *w, const int64_t *record) {
     reached[ours.samples ? SOME : NONE]++;
+    reached[FORECAST_TRANSFER] += is_transfer(w, record);
     if (ours.samples == 0) return;
     reached[FAR] += ours.samples > 1000000;
     reached[WHILE_HELD] += record[KEXBARDI_FIELD_HOLD] == 1;
@@ -495,7 +668,10 @@ static void forecast(unsigned number) {
     forecast_refusals[a]++;
     if (ours.samples != plain.samples) differ("forecast", "counts");
     if (a != 0 && ours.samples != (uint64_t)before) differ("forecast", "counts before and behind a refusal");
-    if (a == 0) count_forecast(ours.words + KEXBARDI_ADDRESS(loop, 0), ours.records + KEXBARDI_FIELDS * (loop - 1));
+    if (a != 0 && a != 11) return;
+    const uint16_t *w = ours.words + KEXBARDI_ADDRESS(loop, 0);
+    if (a == 0) count_forecast(w, ours.records + KEXBARDI_FIELDS * (loop - 1));
+    else reached[major_of((unsigned)loop, w) ? FORECAST_LIMIT : FORECAST_POINTER]++;
 }
 
 static void record(unsigned number) {
@@ -507,11 +683,19 @@ static void record(unsigned number) {
     if (memcmp(ours.fields, plain.fields, sizeof ours.fields) != 0) differ("record", "fields");
 }
 
+/* Automatic, and then Cascade asked for, mostly with Bumpless I */
+static void file_transfer(unsigned loop, unsigned full) {
+    unsigned mode_1 = KEXBARDI_ADDRESS(loop, KEXBARDI_MODE_1), others = any(2) * KEXBARDI_M1_ROOT | once_in(4) * KEXBARDI_M1_BUMPLESS_II;
+    file_store(mode_1, KEXBARDI_M1_AUTOMATIC | others), file_sample(loop, any(full + 1));
+    file_store(mode_1, KEXBARDI_M1_CASCADE | others), file_sample(loop, any(full + 1));
+}
+
 /* samples, changed settings and odd records; now and then damaged or cut */
 static void fill_file(unsigned loop, unsigned full) {
     for (unsigned left = any(40); left > 0; left--) {
         unsigned length = any(10);
-        if (any(6)) file_sample(once_in(20) ? any(256) : once_in(3) ? 1 + any(16) : loop, any(full + 1));
+        if (once_in(10)) file_transfer(loop, full);
+        else if (any(6)) file_sample(once_in(20) ? any(256) : once_in(3) ? 1 + any(16) : loop, any(full + 1));
         else if (any(4)) change(file_store, loop);
         else for (pair(length); length > 0; length--) byte(once_in(3) ? 1 + any(2) : any(2) * any(17));
     }
@@ -520,22 +704,36 @@ static void fill_file(unsigned loop, unsigned full) {
     if (once_in(4)) size = any((unsigned)size + 1);
 }
 
+/* whether a loop has a mark now, and had none in these records */
+static int is_marked(const int64_t *before) {
+    for (unsigned n = KEXBARDI_FIELD_MARK; n < KEXBARDI_NUMBERS; n += KEXBARDI_FIELDS)
+        if (before[n] == 0 && ours.records[n] == 1) return 1;
+    return 0;
+}
+
 static void run(unsigned loop) {
+    int64_t before[KEXBARDI_NUMBERS];
     size_t words = length_of(KEXBARDI_WORDS), records = length_of(KEXBARDI_NUMBERS), room = once_in(4) ? any(20) : ANSWERS;
     size = 0;
     fill_file(loop, full_scale(ours.words[KEXBARDI_ADDRESS(loop, KEXBARDI_MODE_2)]));
+    memcpy(before, ours.records, sizeof before);
     uint8_t a = kexbardi_run(file, size, ours.words, words, ours.records, records, ours.answers, room, &ours.count, &ours.refused);
     compare("run", a, plain_run(file, size, plain.words, words, plain.records, records, plain.answers, room, &plain.count, &plain.refused));
     if (ours.count != plain.count || ours.refused != plain.refused) differ("run", "counts");
     if (memcmp(ours.answers, plain.answers, sizeof ours.answers) != 0) differ("run", "answers to records");
-    for (size_t n = 0; a == 0 && n < room && n < ours.count; n++) refusals[ours.answers[n] % 10] += ours.answers[n] != 0;
+    for (size_t n = 0; a == 0 && n < room && n < ours.count; n++)
+        if (ours.answers[n] > 0 && ours.answers[n] <= HIGHEST) refusals[ours.answers[n]]++;
+    reached[BY_FILE] += is_marked(before);
 }
 
 static void print(void) {
     static const uint8_t too_long[65537] = {0};
     int is_long = once_in(20);
     size = 0;
-    fill_file(2, settle(file_store, 2));
+    settle(file_store, 3);
+    unsigned full = settle(file_store, 2);
+    if (any(3)) file_store(KEXBARDI_ADDRESS(2, KEXBARDI_POINTER), output_of(3));
+    fill_file(2, full);
     const uint8_t *from = is_long ? too_long : file;
     size_t bytes = is_long ? sizeof too_long : size, room = is_long ? 8 + any(3) : KEXBARDI_PRINT_ROOM(size) - once_in(10);
     uint8_t a = kexbardi_print(from, bytes, ours.text, room, &ours.length);
@@ -567,7 +765,7 @@ static void reset(void) {
 /* Once in a while from a setpoint that only Cascade allows. */
 static void any_forecast(unsigned loop) {
     unsigned mode_1 = KEXBARDI_ADDRESS(loop, KEXBARDI_MODE_1);
-    if (once_in(8)) {
+    if (once_in(4)) {
         write_word(KEXBARDI_ADDRESS(loop, KEXBARDI_SETPOINT), any(65536));
         write_word(mode_1, (ours.words[mode_1] & ~(unsigned)KEXBARDI_M1_REQUESTS) | KEXBARDI_M1_CASCADE);
     }
@@ -593,18 +791,88 @@ static void run_profile(unsigned loop) {
     }
 }
 
-/* A sample, now and then with a command. A loop that refuses is soon set up again, so that most samples are accepted. */
+/* After a transfer that was refused: another pointer, wider limits of the major loop, Bumpless II, or Cascade no longer asked for. */
+static void mend_transfer(unsigned loop) {
+    unsigned base = KEXBARDI_ADDRESS(loop, 0), mode_1 = ours.words[base + KEXBARDI_MODE_1], major = major_of(loop, ours.words + base);
+    if (once_in(8)) write_word(base + KEXBARDI_MODE_1, mode_1 & ~(unsigned)KEXBARDI_M1_REQUESTS);
+    else if (once_in(8)) write_word(base + KEXBARDI_MODE_1, (mode_1 & ~(unsigned)KEXBARDI_M1_VELOCITY) | KEXBARDI_M1_BUMPLESS_II);
+    else if (major == 0) write_word(base + KEXBARDI_POINTER, other_output(loop));
+    else {
+        write_word(KEXBARDI_ADDRESS(major, KEXBARDI_OUTPUT_LOW), any(100));
+        write_word(KEXBARDI_ADDRESS(major, KEXBARDI_OUTPUT_HIGH), full_scale(ours.words[KEXBARDI_ADDRESS(major, KEXBARDI_MODE_2)]));
+    }
+}
+
+/* After a refusal a loop is soon set up again, so that most samples are accepted. */
+static void mend(unsigned loop, uint8_t answer) {
+    if (answer == 0 || any(3)) return;
+    if (answer == 5) write_record(loop);
+    if (answer == 7 || answer == 8) settle(once_in(2) ? store : write_word, loop), write_word(600, any(4096));
+    if (answer == 11) mend_transfer(loop);
+}
+
+static void ask_for(unsigned loop, unsigned request) {
+    unsigned mode_1 = KEXBARDI_ADDRESS(loop, KEXBARDI_MODE_1);
+    write_word(mode_1, (ours.words[mode_1] & ~(unsigned)KEXBARDI_M1_REQUESTS) | request);
+}
+
+/* A hand on a loop of a cascade: form or Bumpless, output, mark, pointer, or a mode asked for. */
+static void change_cascade(unsigned loop) {
+    static const int64_t marks[] = {0, 1, 1, 1, 2, -1};
+    unsigned base = KEXBARDI_ADDRESS(loop, 0), mode_1 = ours.words[base + KEXBARDI_MODE_1];
+    switch (any(8)) {
+    case 0: write_word(base + KEXBARDI_MODE_1, (mode_1 & ~(unsigned)KEXBARDI_M1_BUMPLESS_II) ^ KEXBARDI_M1_VELOCITY); break;
+    case 1: write_word(base + KEXBARDI_MODE_1, (mode_1 & ~(unsigned)KEXBARDI_M1_VELOCITY) ^ KEXBARDI_M1_BUMPLESS_II); break;
+    case 2: write_word(base + KEXBARDI_OUTPUT, any(2) ? any(4096) : any(65536)); break;
+    case 3: write_number(KEXBARDI_FIELDS * (loop - 1) + KEXBARDI_FIELD_MARK, marks[any(6)]); break;
+    case 4: write_word(base + KEXBARDI_POINTER, pointer(loop)); break;
+    default: ask_for(loop, 1u << any(3)); break;
+    }
+}
+
+/* Automatic, and then Cascade asked for; between the two now and then a hand on either loop, or a forecast. */
+static void try_transfer(unsigned loop) {
+    ask_for(loop, KEXBARDI_M1_AUTOMATIC);
+    mend(loop, sample(loop));
+    unsigned major = major_of(loop, ours.words + KEXBARDI_ADDRESS(loop, 0));
+    if (major && once_in(2)) change_cascade(major);
+    if (once_in(4)) change_cascade(loop);
+    ask_for(loop, KEXBARDI_M1_CASCADE);
+    if (once_in(4)) forecast(loop);
+    mend(loop, sample(loop));
+}
+
+/* Three loops in one go, a chain or two minor loops of one major. Most have 16 bits, so that they can follow any output; in the end
+ * they are set up again. */
+static void run_cascade(unsigned first) {
+    unsigned loops[3], apart = 1 + any(7), chain = any(2);
+    for (unsigned n = 0; n < 3; n++) {
+        loops[n] = 1 + (first - 1 + n * apart) % KEXBARDI_LOOPS;
+        settle(write_word, loops[n]);
+        if (any(4)) write_word(KEXBARDI_ADDRESS(loops[n], KEXBARDI_MODE_2), KEXBARDI_M2_SIXTEEN_BITS);
+    }
+    write_word(KEXBARDI_ADDRESS(loops[0], KEXBARDI_POINTER), output_of(loops[1]));
+    write_word(KEXBARDI_ADDRESS(loops[chain ? 1 : 2], KEXBARDI_POINTER), output_of(loops[chain ? 2 : 1]));
+    for (unsigned left = 10 + any(30); left > 0; left--) {
+        unsigned loop = loops[any(3)];
+        if (once_in(4)) change_cascade(loop);
+        if (once_in(4)) try_transfer(loop);
+        else mend(loop, sample(loop));
+    }
+    for (unsigned n = 0; n < 3; n++) settle(write_word, loops[n]);
+}
+
+/* A sample, now and then with a command. */
 static void sample_and_mend(unsigned loop) {
     if (once_in(16)) write_word(KEXBARDI_ADDRESS(loop, KEXBARDI_PROFILE_FLAGS), command(loop));
-    uint8_t a = sample(loop);
-    if (a == 5 && once_in(3)) write_record(loop);
-    if ((a == 7 || a == 8) && once_in(3)) settle(once_in(2) ? store : write_word, loop), write_word(600, any(4096));
+    mend(loop, sample(loop));
 }
 
 static void turn(void) {
     unsigned loop = 1 + any(16), kind = any(10000);
     if (kind < 8200) sample_and_mend(loop);
-    else if (kind < 8260) run_profile(loop);
+    else if (kind < 8250) run_profile(loop);
+    else if (kind < 8300) run_cascade(loop);
     else if (kind < 8500) any_forecast(loop);
     else if (kind < 9000) change(store, loop);
     else if (kind < 9200) record(once_in(10) ? any(256) : loop);
@@ -620,16 +888,16 @@ static void turn(void) {
 }
 
 static int report(void) {
-    static const int wide[] = {4, 6, 9}, of_forecast[] = {4, 5, 7, 8}, of_setup[] = {0, 5, 10};
+    static const int wide[] = {4, 6, 9}, of_forecast[] = {4, 5, 7, 8, 11}, of_setup[] = {0, 5, 10};
     int missing = 0;
     printf("%lu calls, %lu samples accepted\n", calls, accepted);
-    for (int n = 1; n <= 10; n++) printf("refused with %d: %lu\n", n, refusals[n]), missing += refusals[n] == 0;
+    for (int n = 1; n <= HIGHEST; n++) printf("refused with %d: %lu\n", n, refusals[n]), missing += refusals[n] == 0;
     for (int n = 0; n < 3; n++)
         printf("refused with %d by a wide number: %lu\n", wide[n], wide_refusals[wide[n]]), missing += wide_refusals[wide[n]] == 0;
     for (int n = 0; n < FEATURES; n++) printf("accepted, %s: %lu\n", feature_names[n], features[n]), missing += features[n] == 0;
     for (int n = 1; n <= KEXBARDI_SEGMENTS; n++) printf("accepted, moved in segment %d: %lu\n", n, segments[n]), missing += segments[n] == 0;
     for (int n = 0; n < REACHED; n++) printf("%s: %lu\n", reached_names[n], reached[n]), missing += reached[n] == 0;
-    for (int n = 0; n < 4; n++) {
+    for (int n = 0; n < 5; n++) {
         printf("forecast refused with %d: %lu\n", of_forecast[n], forecast_refusals[of_forecast[n]]);
         missing += forecast_refusals[of_forecast[n]] == 0;
     }

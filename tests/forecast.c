@@ -135,6 +135,8 @@ static void interrupt(unsigned loop, unsigned full) {
     uint64_t expected = forecast(loop);
     *flags ^= (uint16_t)any(65536);
     equals("with commands waiting", forecast(loop), expected);
+    /* from Automatic with Bumpless II, for a transfer would move the setpoint */
+    if (mode == KEXBARDI_M1_AUTOMATIC) *mode_1 = (uint16_t)((*mode_1 & ~(unsigned)KEXBARDI_M1_VELOCITY) | KEXBARDI_M1_BUMPLESS_II);
     *mode_1 |= KEXBARDI_M1_CASCADE;
     *word(loop, KEXBARDI_POINTER) = (uint16_t)KEXBARDI_ADDRESS(loop, KEXBARDI_SETPOINT);
     unmoved("in Cascade", loop, full, 1 + any(3), expected);
@@ -305,7 +307,7 @@ static void refuses(const char *what, size_t words_length, size_t records_length
 }
 
 static void wrong_calls(void) {
-    static const size_t lengths[] = {0, 1, 1023, 1025, 1032}, numbers[] = {0, 1, 13, 128, 207, 209, 216};
+    static const size_t lengths[] = {0, 1, 1023, 1025, 1032}, numbers[] = {0, 1, 14, 128, 208, 223, 225, 232};
     static const uint64_t loops[] = {0, 17, 32, 255, 256, 257, 259, 65539, (uint64_t)1 << 32 | 3, (uint64_t)-1};
     begin_running("lengths and loops");
     for (unsigned n = 0; n < sizeof lengths / sizeof *lengths; n++) refuses("words", lengths[n], KEXBARDI_NUMBERS, 3, 5);
@@ -317,7 +319,7 @@ static void wrong_calls(void) {
 
 static void wrong_records(void) {
     static const int64_t ranges[KEXBARDI_FIELDS][2] = {{0, 2}, {-((int64_t)1 << 52), (int64_t)1 << 52}, {0, 65535 * (int64_t)262144},
-        {0, 65535}, {0, 65535}, {-65535, 65535}, {0, 1}, {0, 1}, {0, 16}, {0, 1}, {0, 1}, {0, 9999}, {0, 6000000}};
+        {0, 65535}, {0, 65535}, {-65535, 65535}, {0, 1}, {0, 1}, {0, 16}, {0, 1}, {0, 1}, {0, 9999}, {0, 6000000}, {0, 1}};
     for (unsigned n = 0; n < KEXBARDI_FIELDS; n++)
         for (unsigned end = 0; end < 2; end++) {
             begin_running("numbers out of range");
@@ -384,6 +386,38 @@ static void wrong_settings(void) {
     refuses_word("pointer", word(3, KEXBARDI_POINTER), 1023, 1024, 8);
 }
 
+/* Loop 3 in Automatic with Cascade requested and Bumpless I: a forecast takes 0 for p. Loop 4's limits are 0 and 0. */
+static void begin_transfer(void) {
+    begin_running("a transfer");
+    *field(3, KEXBARDI_FIELD_MODE) = KEXBARDI_AUTOMATIC;
+    *word(3, KEXBARDI_MODE_1) |= KEXBARDI_M1_CASCADE;
+    *word(3, KEXBARDI_POINTER) = (uint16_t)KEXBARDI_ADDRESS(4, KEXBARDI_OUTPUT);
+    equals("to loop 4", forecast(3), 16);
+}
+
+static void wrong_transfers(void) {
+    static const unsigned pointers[] = {0, 4, 6, 69, 100, 102, 511, 512, 517, 1023}; /* 69 is its own output, 101 that of loop 4 */
+    for (unsigned n = 0; n < sizeof pointers / sizeof *pointers; n++) {
+        begin_transfer();
+        refuses_word("a pointer to no other output", word(3, KEXBARDI_POINTER), 101, pointers[n], 11);
+        *word(3, KEXBARDI_MODE_1) |= KEXBARDI_M1_BUMPLESS_II;
+        equals("Bumpless II", forecast(3), 16);
+        *word(3, KEXBARDI_MODE_1) = KEXBARDI_M1_PROFILE | KEXBARDI_M1_CASCADE;
+        *field(3, KEXBARDI_FIELD_SEGMENT) = 0;
+        refuses("where no profile runs", KEXBARDI_WORDS, KEXBARDI_NUMBERS, 3, 11);
+        *field(3, KEXBARDI_FIELD_MODE) = KEXBARDI_CASCADE;
+        equals("no change", forecast(3), 0);
+    }
+    begin_transfer();
+    refuses_word("0 below the low limit", word(4, KEXBARDI_OUTPUT_LOW), 0, 1, 11);
+    *word(4, KEXBARDI_OUTPUT_HIGH) = 4095;
+    refuses("whatever the high one", KEXBARDI_WORDS, KEXBARDI_NUMBERS, 3, 11);
+    *word(3, KEXBARDI_PERIOD) = 0x0004;
+    refuses("a setting before it", KEXBARDI_WORDS, KEXBARDI_NUMBERS, 3, 8);
+    *word(3, KEXBARDI_RATE) = 0x000A;
+    refuses("a digit before both", KEXBARDI_WORDS, KEXBARDI_NUMBERS, 3, 7);
+}
+
 int main(int count, char **args) {
     unsigned long tables = count == 2 ? strtoul(args[1], NULL, 10) : 1000;
     for (; tables > 0; tables--) random_table();
@@ -395,6 +429,7 @@ int main(int count, char **args) {
     wrong_records();
     wrong_digits();
     wrong_settings();
+    wrong_transfers();
     printf("%u passed, %u failed\n", passed, failed);
     return failed != 0;
 }

@@ -1,6 +1,7 @@
 /* A whole shift on the archive and on the plain engine: sixteen loops, 20 samples a second each, eight hours.
  * Every loop is closed over a small process, and an instructor changes setpoints, gains and modes. Some loops follow
- * profiles of half an hour and more, which the instructor starts, holds, resumes and jogs. It links the archive and
+ * profiles of half an hour and more, which the instructor starts, holds, resumes and jogs. In Cascade the loops with
+ * Bumpless I follow another loop's output, which from Automatic is a transfer. It links the archive and
  * bench/plain_engine.c:
  *   gcc -O2 -std=c99 -Itarget/kexbardi/include -Ibench tests/shift.c bench/plain_engine.c target/kexbardi/lib/libkexbardi.a */
 #include "kexbardi.h"
@@ -12,7 +13,7 @@
 
 #define SAMPLES (16L * 20 * 3600 * 8)
 #define PARTS 1024 /* a process's level is in 1/1,024 of a count */
-#define MASTER 600 /* the word that the loops in Cascade follow; in no table of those below */
+#define MASTER 600 /* the word that the loops with Bumpless II follow in Cascade; in no table of those below */
 
 struct desk {
     uint16_t words[KEXBARDI_WORDS];
@@ -29,7 +30,7 @@ struct process {
 static struct desk ours, plain;
 static struct process processes[KEXBARDI_LOOPS];
 static uint64_t seed = 88172645463325252ull;
-static long completed[KEXBARDI_LOOPS], in_segment[KEXBARDI_SEGMENTS + 1];
+static long completed[KEXBARDI_LOOPS], in_segment[KEXBARDI_SEGMENTS + 1], transfers[KEXBARDI_LOOPS], by_mark[KEXBARDI_LOOPS];
 
 /* 0 to below - 1 */
 static unsigned any(unsigned below) {
@@ -53,13 +54,18 @@ static void store(unsigned address, unsigned value) {
 /* the loops with a profile: every format and form, both kinds of Bumpless, freeze, deadband and reverse */
 static int has_profile(unsigned loop) { return loop % 4 == 2 || loop == 9 || loop == 16; }
 
+static int has_bumpless_2(unsigned loop) { return loop % 4 == 1; }
+
+/* the loop whose output a loop with Bumpless I follows: one of the same format, so that its output is never above full scale */
+static unsigned major_of(unsigned loop) { return loop > 13 ? loop - 12 : loop + 3; }
+
 /* mode 1: a request, alarms watched, and what this loop is for its whole life */
 static unsigned mode_1(unsigned loop, unsigned request) {
     unsigned always = 0x7000;
     if (has_profile(loop)) always |= KEXBARDI_M1_PROFILE;
     if (processes[loop - 1].reverse) always |= 1 << 4;
     if (loop % 4 == 0) always |= 1 << 5;
-    else if (loop % 4 == 1) always |= 1 << 3;
+    else if (has_bumpless_2(loop)) always |= 1 << 3;
     if (loop % 5 == 0) always |= 1 << 8;
     if (loop % 6 == 0) always |= 1 << 10;
     if (loop == 7) always |= 1 << 7;
@@ -104,7 +110,7 @@ static void settle(unsigned loop) {
     store(base + KEXBARDI_DEADBAND, full / 500);
     store(base + KEXBARDI_OUTPUT_LOW, loop % 2 * full / 20);
     store(base + KEXBARDI_OUTPUT_HIGH, full - loop % 2 * full / 20);
-    store(base + KEXBARDI_POINTER, MASTER);
+    store(base + KEXBARDI_POINTER, has_bumpless_2(loop) ? MASTER : KEXBARDI_ADDRESS(major_of(loop), KEXBARDI_OUTPUT));
     store(base + KEXBARDI_MODE_1, mode_1(loop, 1));
     if (has_profile(loop)) {
         store(base + KEXBARDI_PROFILE_TABLE, KEXBARDI_TABLE_FIRST + KEXBARDI_TABLE_WORDS * (loop - 1));
@@ -135,15 +141,21 @@ static void command(unsigned loop) {
     }
 }
 
+/* Whether the PV is well inside any loop's output limits: then a transfer is not refused. */
+static int may_follow(unsigned loop) {
+    int full = processes[loop - 1].full, pv = ours.words[KEXBARDI_ADDRESS(loop, KEXBARDI_PV)];
+    return pv > full / 8 && pv < full - full / 8;
+}
+
 /* Once in about five minutes of a loop: a setpoint, a gain, a mode, an output by hand, and a profile's command. */
 static void instruct(unsigned loop) {
     unsigned base = KEXBARDI_ADDRESS(loop, 0), full = (unsigned)processes[loop - 1].full, word = ours.words[base + KEXBARDI_MODE_1];
-    switch (any(8)) {
+    switch (any(9)) {
     case 0: case 1: store(base + KEXBARDI_SETPOINT, setpoint(full)); break;
     case 2: store(base + KEXBARDI_GAIN, bcd(20 + any(200))); break;
     case 3: store(base + KEXBARDI_MODE_1, word | 1), store(base + KEXBARDI_OUTPUT, any(full + 1)); break;
     case 4: case 5: store(base + KEXBARDI_MODE_1, word | 2); break;
-    case 6: store(base + KEXBARDI_MODE_1, word | 4); break;
+    case 6: case 7: if (may_follow(loop)) store(base + KEXBARDI_MODE_1, word | 4); break;
     default: store(MASTER, setpoint(4095)); break;
     }
     if (has_profile(loop)) command(loop);
@@ -163,8 +175,19 @@ static void compare(long at) {
     }
 }
 
+/* Before a sample: whether it is a transfer, and whether it is an entry by the mark alone. */
+static void count_cascade(unsigned loop) {
+    const int64_t *record = ours.records + KEXBARDI_FIELDS * (loop - 1);
+    unsigned word = ours.words[KEXBARDI_ADDRESS(loop, KEXBARDI_MODE_1)];
+    if (record[KEXBARDI_FIELD_MODE] == KEXBARDI_MANUAL || word & KEXBARDI_M1_MANUAL) return;
+    by_mark[loop - 1] += record[KEXBARDI_FIELD_MARK] == 1;
+    transfers[loop - 1] += record[KEXBARDI_FIELD_MODE] == KEXBARDI_AUTOMATIC && !has_bumpless_2(loop)
+        && (word & KEXBARDI_M1_REQUESTS) == KEXBARDI_M1_CASCADE;
+}
+
 static void sample(long at, unsigned loop) {
     uint16_t raw = measure(loop);
+    count_cascade(loop);
     const uint16_t *flags = ours.words + KEXBARDI_ADDRESS(loop, KEXBARDI_PROFILE_FLAGS);
     unsigned before = KEXBARDI_P_SEGMENT(*flags);
     uint8_t a = kexbardi_sample(ours.words, KEXBARDI_WORDS, ours.records, KEXBARDI_NUMBERS, loop, raw, ours.line);
@@ -188,6 +211,18 @@ static void check_profiles(void) {
     printf("%ld profiles completed\n", all);
 }
 
+/* Every loop with Bumpless I made a transfer, and every loop that one of them follows had an entry by its mark. */
+static void check_cascades(void) {
+    long all = 0, entries = 0;
+    for (unsigned loop = 1; loop <= KEXBARDI_LOOPS; loop++) {
+        all += transfers[loop - 1];
+        entries += by_mark[loop - 1];
+        if (has_bumpless_2(loop) != (transfers[loop - 1] == 0)) fail(SAMPLES, "a loop makes no transfer");
+        if (!has_bumpless_2(loop) && by_mark[major_of(loop) - 1] == 0) fail(SAMPLES, "a loop has no entry by its mark");
+    }
+    printf("%ld transfers, %ld entries by a mark alone\n", all, entries);
+}
+
 int main(void) {
     long near = 0;
     memset(&ours, 0xa5, sizeof ours);
@@ -205,7 +240,8 @@ int main(void) {
     }
     compare(SAMPLES);
     check_profiles();
-    printf("%ld of them within 1 %% of the setpoint\n", near);
+    check_cascades();
+    printf("%ld samples within 1 %% of the setpoint\n", near);
     if (near < SAMPLES / 2) fail(SAMPLES, "the loops do not control");
     printf("%ld samples: equal\n", SAMPLES);
     return 0;

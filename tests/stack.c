@@ -166,7 +166,34 @@ static void all_samples(void) {
         }
 }
 
+/* From Automatic to Cascade, to the output of loop 2, and its own sample; every option but Bumpless II, which makes it no transfer. */
+static void transfers(void) {
+    static const unsigned options[] = {KEXBARDI_M1_VELOCITY, KEXBARDI_M1_ROOT, KEXBARDI_M1_SQUARED, KEXBARDI_M1_DEADBAND,
+        KEXBARDI_M1_FREEZE, KEXBARDI_M1_PROFILE, KEXBARDI_M1_REVERSE,
+        KEXBARDI_M1_PV_ALARMS | KEXBARDI_M1_DEVIATION_ALARMS | KEXBARDI_M1_RATE_ALARM};
+    static const unsigned formats[] = {0, KEXBARDI_M2_FIFTEEN_BITS, KEXBARDI_M2_SIXTEEN_BITS};
+    for (unsigned chosen = 0; chosen < 256; chosen++) {
+        unsigned mode_1 = 0, mode_2 = formats[chosen % 3], full = KEXBARDI_FULL_SCALE(mode_2);
+        for (unsigned n = 0; n < 8; n++) mode_1 |= chosen >> n & 1 ? options[n] : 0;
+        begin(mode_1 | KEXBARDI_M1_AUTOMATIC, mode_2);
+        memcpy(desk.words + KEXBARDI_ADDRESS(2, 0), desk.words, KEXBARDI_LOOP_WORDS * sizeof *desk.words);
+        set(1, KEXBARDI_POINTER, KEXBARDI_ADDRESS(2, KEXBARDI_OUTPUT));
+        answers_with(0, sample(1, any(full + 1)), "kexbardi_sample");
+        answers_with(0, sample(2, any(full + 1)), "kexbardi_sample");
+        set(1, KEXBARDI_MODE_1, mode_1 | KEXBARDI_M1_CASCADE);
+        answers_with(0, sample(1, any(full + 1)), "kexbardi_sample");
+        answers_with(0, sample(2, any(full + 1)), "kexbardi_sample");
+    }
+}
+
 static void refused_samples(void) {
+    begin(KEXBARDI_M1_AUTOMATIC, 0);
+    answers_with(0, sample(1, 0), "kexbardi_sample");
+    set(1, KEXBARDI_MODE_1, KEXBARDI_M1_CASCADE);
+    answers_with(KEXBARDI_TRANSFER, sample(1, 0), "kexbardi_sample");
+    answers_with(KEXBARDI_TRANSFER, CALL(FORECAST, DESK, 1, AT(&samples)), "kexbardi_forecast");
+    set(1, KEXBARDI_POINTER, KEXBARDI_ADDRESS(2, KEXBARDI_OUTPUT));
+    answers_with(KEXBARDI_TRANSFER, sample(1, 1), "kexbardi_sample");
     begin(KEXBARDI_M1_AUTOMATIC | KEXBARDI_M1_PROFILE, 0);
     answers_with(KEXBARDI_MEMORY, CALL(SAMPLE, SHORT, 1, 0, AT(line)), "kexbardi_sample");
     answers_with(KEXBARDI_LOOP, sample(17, 0), "kexbardi_sample");
@@ -246,6 +273,7 @@ static void read_file(const char *name) {
 
 int main(int arguments, char **names) {
     all_samples();
+    transfers();
     refused_samples();
     forecasts();
     small_calls();

@@ -1,15 +1,16 @@
 -- The carried record of a loop as numbers of 64 bits (H1): their ranges, one row a number, and the place of each loop's record in the lent
 -- buffer (H4).
-use Prim.Native.Nat.{ℕ, suc, _*_, _-_, _^_}
-use mathlib.Core.Bool.{Bool, false, cond, _||_}
+use Prim.Native.Nat.{ℕ, suc, _+_, _*_, _-_, _^_}
+use mathlib.Core.Bool.{Bool, true, false, cond, _||_}
 use mathlib.Core.List.{List, [], _∷_}
-use lib.ListN.{length, getD, take, drop}
+use lib.ListN.{length, getD, set, take, drop}
 use lib.IntN.{ℤ, pos, negℤ, natAbs}
 use lib.Signed.{ltZ}
 use Rattle.table.specs.declared.mode.Mode.{Mode}
 use Rattle.table.specs.declared.mode.Mode.the-variants.{Manual, Automatic, Cascade}
 use Rattle.table.specs.Words.{any}
 use Rattle.profile.specs.declared.state.Profile.{Profile}
+use Rattle.carried.specs.declared.record.State.{State}
 use Rattle.carried.specs.declared.record.Carried.{Carried}
 pub mod Laws
 
@@ -23,8 +24,8 @@ infix 20 _to_
 abbrev pub _to_ : ℤ → ℤ → Range
 low to high = record { low = low; high = high }
 
--- H1: mode; bias and output in units; the last PV and the one before; error; form; whether a sample was accepted; and of the profile segment, hold,
--- completion, fraction and time
+-- H1: mode; bias and output in units; the last PV and the one before; error; form; whether a sample was accepted; of the profile segment, hold,
+-- completion, fraction and time; and the mark
 abbrev pub ranges : List Range
 ranges =
     (pos 0 to pos 2)
@@ -40,6 +41,7 @@ ranges =
     ∷ (pos 0 to pos 1)
     ∷ (pos 0 to pos 9999)
     ∷ (pos 0 to pos 6000000)
+    ∷ (pos 0 to pos 1)
     ∷ []
 
 -- H1: how many numbers a record has
@@ -67,7 +69,7 @@ modeNumber Manual = 0
 modeNumber Automatic = 1
 modeNumber Cascade = 2
 
--- H1: the number of a form, of `sampled`, of a hold and of completion
+-- H1: the number of a form, of `sampled`, of a hold, of completion and of a mark
 abbrev pub flag : Bool → ℤ
 flag on = cond on (pos 1) (pos 0)
 
@@ -87,6 +89,7 @@ numbersOf c =
     ∷ flag (c .state .profile .complete)
     ∷ pos (c .state .profile .fraction)
     ∷ pos (c .state .profile .time)
+    ∷ flag (c .state .mark)
     ∷ []
 
 -- ---- and back, from numbers in range
@@ -116,19 +119,20 @@ unfoldable pub recordFrom : List ℤ → Carried
 recordFrom ns =
     let at : ℕ → ℤ = λ i. getD ns i (pos 0) in
     record {
-      state = record { mode = modeFrom (at 0); velocity = flagFrom (at 6); profile = profileFrom ns };
+      state = record { mode = modeFrom (at 0); velocity = flagFrom (at 6); profile = profileFrom ns; mark = flagFrom (at 13) };
       drive = record { bias = at 1; output = at 2 };
       past = record { last = natAbs (at 3); prior = natAbs (at 4); error = at 5 };
       sampled = flagFrom (at 7);
     }
 
--- H3: at reset Manual, position form, no sample accepted, no profile, and all else 0
+-- H3: at reset Manual, position form, no sample accepted, no profile, no mark, and all else 0
 unfoldable pub resetRecord : Carried
 resetRecord = record {
   state = record {
     mode = Manual;
     velocity = false;
     profile = record { segment = 0; hold = false; complete = false; fraction = 0; time = 0 };
+    mark = false;
   };
   drive = record { bias = pos 0; output = pos 0 };
   past = record { last = 0; prior = 0; error = pos 0 };
@@ -152,3 +156,16 @@ numbersAt ns at = take fieldCount (drop at ns)
 -- H4: loop k's record
 abbrev pub recordAt : List ℤ → ℕ → Carried
 recordAt ns k = recordFrom (numbersAt ns (slotOf k))
+
+-- ---- the mark of a transfer
+
+-- A13: loop k's number 13 becomes 1, whatever stood there
+abbrev pub markedAt : List ℤ → ℕ → List ℤ
+markedAt ns k = set ns (slotOf k + 13) (pos 1)
+
+-- A13: the state of a loop that was marked
+abbrev pub marked : State → State
+marked s = record { mode = s .mode; velocity = s .velocity; profile = s .profile; mark = true }
+
+abbrev pub markedRecord : Carried → Carried
+markedRecord c = record { state = marked (c .state); drive = c .drive; past = c .past; sampled = c .sampled }

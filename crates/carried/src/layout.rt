@@ -13,9 +13,9 @@ ghost use Prim.Native.Nat.{_+_, _≤_};
 ghost use lib.IntN.{pos};
 ghost use lib.ListN.{length};
 ghost use lib.Seq.{sets};
-ghost use Rattle.carried.specs.Layout.{modeNumber, flag, numbersOf, modeFrom, profileFrom, recordFrom, fieldCount, _to_, outsideRow, outOfRange, slotOf, numbersAt};
+ghost use Rattle.carried.specs.Layout.{modeNumber, flag, numbersOf, modeFrom, profileFrom, recordFrom, fieldCount, _to_, outsideRow, outOfRange, slotOf, numbersAt, markedAt};
 
-pub const FIELDS: usize = 13; // numbers of a record
+pub const FIELDS: usize = 14; // numbers of a record
 
 pub const NUMBERS: usize = LOOPS as usize * FIELDS; // numbers of the buffer
 
@@ -45,6 +45,8 @@ const COMPLETE: usize = 10;
 const FRACTION: usize = 11;
 
 const TIME: usize = 12;
+
+const MARK: usize = 13;
 
 // The ends of the ranges: a mode, a flag, a word, bias and output in units, and those of a profile.
 const CASCADE: i64 = 2;
@@ -119,6 +121,7 @@ pub fn out_of_range(n: [i64; FIELDS]) -> bool
         | outside(n[COMPLETE], 0, ON)
         | outside(n[FRACTION], 0, MOST_FRACTION)
         | outside(n[TIME], 0, MOST_TIME)
+        | outside(n[MARK], 0, ON)
 }
 
 // The profile that numbers in range stand for.
@@ -152,6 +155,7 @@ pub fn record_of(n: [i64; FIELDS]) -> Carried
             mode,
             velocity: 0 < n[VELOCITY],
             profile,
+            mark: 0 < n[MARK],
         },
         drive: Drive {
             bias: n[BIAS],
@@ -190,6 +194,7 @@ pub fn numbers_of(c: Carried) -> [i64; FIELDS]
         flag_number(profile.complete),
         profile.fraction as i64,
         profile.time as i64,
+        flag_number(state.mark),
     ]
 }
 
@@ -226,4 +231,13 @@ pub fn put_numbers(numbers: &mut [i64], at: usize, fields: [i64; FIELDS])
         numbers[at + i] = n;
         i += 1;
     }
+}
+
+// A13: the mark set in the record of loop k.
+pub fn put_mark(numbers: &mut [i64], k: u8)
+    requires { ⌜ slotOf k + fieldCount ≤ length (now numbers) ⌝ }
+    ensures { λ _. ⌜ now (numbers .exit) ≡ markedAt (now (numbers .entry)) k ⌝ }
+{
+    let at = slot_of(k) + MARK;
+    numbers[at] = ON;
 }

@@ -8,6 +8,7 @@ pub use layout::NUMBERS;
 pub use layout::numbers_at;
 pub use layout::numbers_of;
 pub use layout::out_of_range;
+pub use layout::put_mark;
 pub use layout::put_numbers;
 pub use layout::record_of;
 pub use layout::slot_of;

@@ -3,6 +3,7 @@ use Prim.Native.Nat.{ℕ, _+_, _%_, _≤_, _<_}
 use native.Mathlib.Omega.{arith}
 use mathlib.Core.Path.{_≡_, refl, sym, ap, _∙_, subst}
 use mathlib.Core.Bool.{Bool, true, false, _||_}
+use mathlib.Core.Logic.{inl, inr}
 use mathlib.Core.List.{List, [], _∷_, append-nil}
 use lib.Dec.{ltb, eqb}
 use lib.IntN.{ℤ, pos}
@@ -12,13 +13,15 @@ use borrow.Author.Tests.{ne-eqb, eq-eqb, lt-ltb, le-ltb, ltb-true, ltb-false}
 use Rattle.refusals.specs.declared.Answer.{Answer}
 use Rattle.refusals.specs.declared.Answer.the-variants.{Accepted, Refused}
 use Rattle.refusals.specs.declared.Refusal.the-variants.{Setting, Above}
+use Rattle.refusals.specs.declared.Refusal.the-variants.{Transfer as NoTransfer}
 use Rattle.refusals.specs.Refusals.{numberOf, _⇒_, firstOf}
-use Rattle.refusals.specs.Refusals.Laws.{in-table, accepted-only, first-up-to}
+use Rattle.refusals.specs.Refusals.Laws.{in-table, accepted-only, first-of-kind}
 use Rattle.table.specs.declared.reading.Reading.{Reading}
 use Rattle.table.specs.Words.{any}
 use Rattle.carried.specs.Layout.{fieldCount, numberCount, slotOf, numbersAt, recordAt, outOfRange}
-use Rattle.judging.specs.Judging.{readingCases}
-use Rattle.desk.specs.Desk.{Desk, lent, fittingOf, memoryCases, noLoop, resetAnswer, resetLeft, engineWord, storeCases, storeAnswer, storeLeft, readingAt, sampleCases, sampleAnswer, remainingOf, countedBy, forecastAt, copiedBy, fieldsAnswer, fieldsLeft}
+use Rattle.judging.specs.Judging.{badTransfer}
+use Rattle.engine.specs.Sensing.{pvIn}
+use Rattle.desk.specs.Desk.{Desk, lent, fittingOf, memoryCases, noLoop, resetAnswer, resetLeft, engineWord, storeCases, storeAnswer, storeLeft, readingAt, judgedCases, sampleCases, sampleAnswer, remainingOf, countedBy, forecastAt, copiedBy, fieldsAnswer, fieldsLeft}
 use Rattle.desk.specs.Desk.Laws.{sound, there-loop, answer-ranged, reset-sound, reset-numbers}
 use Rattle.desk.specs.Lists.{Call, reset, store, sample, answerTo, deskAfter}
 use Rattle.desk.specs.Lists.Laws.{refused-call, unfit}
@@ -26,14 +29,15 @@ use Rattle.kexbardi.specs.Interface.{lineLeft}
 use Rattle.kexbardi_profiles.specs.Told.{toldBy}
 use Rattle.setups.specs.Setup.{setupOf, setupAnswer, setupLeft}
 use Rattle.kexbardi_files.specs.Files.{filled, setupFilled}
-use Rattle.claims.specs.Calls.{Reserved, pv, bias, status, profile, Settled, Rows, Called}
+use Rattle.claims.specs.Calls.{Answered, Reserved, pv, bias, status, profile, Settled, Rows, Called}
 
--- the answer to a call is 0 or a number up to 9
-pub small : (d : Desk) (call : Call) → numberOf (answerTo d call) ≤ 9
+-- the answer to a call is 0, a number up to 9, or 11
+pub told : (d : Desk) (call : Call) → Answered (numberOf (answerTo d call))
 unfolding answerTo resetAnswer storeAnswer sampleAnswer
-small d reset = first-up-to 9 (memoryCases d) (omega arith)
-small d (store address value) = first-up-to 9 (storeCases d address) (omega arith)
-small d (sample k raw) = first-up-to 9 (sampleCases d k raw) (omega arith)
+told d reset = first-of-kind Answered (inl (omega arith)) (memoryCases d) (inl (omega arith), tt)
+told d (store address value) = first-of-kind Answered (inl (omega arith)) (storeCases d address) (inl (omega arith), (inl (omega arith), (inl (omega arith), tt)))
+told d (sample k raw) =
+    first-of-kind Answered (inl (omega arith)) (sampleCases d k raw) (inl (omega arith), (inl (omega arith), (inl (omega arith), (inl (omega arith), (inl (omega arith), (inl (omega arith), (inl (omega arith), (inl (omega arith), (inl (omega arith), (inl (omega arith), (inr refl, tt)))))))))))
 
 pub fitting : (d : Desk) → length (d .words) ≡ 1024 → length (d .numbers) ≡ numberCount → fittingOf d ≡ true
 unfolding fittingOf
@@ -107,25 +111,28 @@ no-such-loop k wrong = go (ltb k 1) refl (ltb 16 k) refl
     go false e false f = absurd (wrong (ltb-false k 1 e, ltb-false 16 k f))
 
 -- one of the groups of N8 holds
-one-of : (modes ends times limits setpoint above : Bool) → (modes ≡ false → ends ≡ false → times ≡ false → limits ≡ false → setpoint ≡ false → ⊥)
-    → numberOf (firstOf ((modes ⇒ Setting) ∷ (ends ⇒ Setting) ∷ (times ⇒ Setting) ∷ (limits ⇒ Setting) ∷ (setpoint ⇒ Setting) ∷ (above ⇒ Above) ∷ [])) ≡ 8
-one-of true ends times limits setpoint above some = refl
-one-of false true times limits setpoint above some = refl
-one-of false false true limits setpoint above some = refl
-one-of false false false true setpoint above some = refl
-one-of false false false false true above some = refl
-one-of false false false false false above some = absurd (some refl refl refl refl refl)
+one-of : (modes ends times limits setpoint above transfer : Bool) → (modes ≡ false → ends ≡ false → times ≡ false → limits ≡ false → setpoint ≡ false → ⊥)
+    → numberOf (firstOf ((modes ⇒ Setting) ∷ (ends ⇒ Setting) ∷ (times ⇒ Setting) ∷ (limits ⇒ Setting) ∷ (setpoint ⇒ Setting) ∷ (above ⇒ Above) ∷ (transfer ⇒ NoTransfer) ∷ [])) ≡ 8
+one-of true ends times limits setpoint above transfer some = refl
+one-of false true times limits setpoint above transfer some = refl
+one-of false false true limits setpoint above transfer some = refl
+one-of false false false true setpoint above transfer some = refl
+one-of false false false false true above transfer some = refl
+one-of false false false false false above transfer some = absurd (some refl refl refl refl refl)
 
 module _ (r : Reading) (raw : ℕ) where
-  digit : (r .settings .baddigit || r .program .baddigit) ≡ true → numberOf (firstOf (readingCases r raw)) ≡ 7
+  digit : (r .settings .baddigit || r .program .baddigit) ≡ true → numberOf (firstOf (judgedCases r raw)) ≡ 7
   digit e = rw e
 
-  setting : (r .settings .baddigit || r .program .baddigit) ≡ false → (Settled r → ⊥) → numberOf (firstOf (readingCases r raw)) ≡ 8
+  setting : (r .settings .baddigit || r .program .baddigit) ≡ false → (Settled r → ⊥) → numberOf (firstOf (judgedCases r raw)) ≡ 8
   setting e some =
-      rw e (one-of _ _ _ _ _ (ltb (r .settings .mode2 .input .scale) raw)
+      rw e (one-of _ _ _ _ _ (ltb (r .settings .mode2 .input .scale) raw) (badTransfer (r .transfer) (pvIn r raw))
       (λ m x t l s. some (record { digit = e; modes = m; ends = x; times = t; limits = l; setpoint = s })))
 
-  too-high : Settled r → r .settings .mode2 .input .scale < raw → numberOf (firstOf (readingCases r raw)) ≡ 9
+  not-over : Settled r → raw ≤ r .settings .mode2 .input .scale → badTransfer (r .transfer) (pvIn r raw) ≡ true → numberOf (firstOf (judgedCases r raw)) ≡ 11
+  not-over p h e = rw (p .digit, p .modes, p .ends, p .times, p .limits, p .setpoint, le-ltb (r .settings .mode2 .input .scale) raw h, e)
+
+  too-high : Settled r → r .settings .mode2 .input .scale < raw → numberOf (firstOf (judgedCases r raw)) ≡ 9
   too-high p h = rw (p .digit, p .modes, p .ends, p .times, p .limits, p .setpoint, lt-ltb (r .settings .mode2 .input .scale) raw h)
 
 module _ (d : Desk) (k raw : ℕ) (fit : fittingOf d ≡ true) where
@@ -138,8 +145,8 @@ module _ (d : Desk) (k raw : ℕ) (fit : fittingOf d ≡ true) where
     loop = no-loop;
     carried = λ above below e. ap numberOf (answer-ranged d k raw fit above below) ∙ rw e;
     reading = λ above below e.
-        let a : sampleAnswer d k raw ≡ firstOf (readingCases (readingAt d k) raw) = answer-ranged d k raw fit above below ∙ rw e in
-        rw a (digit (readingAt d k) raw, setting (readingAt d k) raw, too-high (readingAt d k) raw);
+        let a : sampleAnswer d k raw ≡ firstOf (judgedCases (readingAt d k) raw) = answer-ranged d k raw fit above below ∙ rw e in
+        rw a (digit (readingAt d k) raw, setting (readingAt d k) raw, too-high (readingAt d k) raw, not-over (readingAt d k) raw);
   }
 
 -- ---- forecasts
@@ -208,7 +215,7 @@ pub called : Called
 unfolding answerTo deskAfter
 called = record {
   lengths = λ d. (fitting d, λ e. (sound d e .words, sound d e .numbers));
-  answers = λ d call. (small d call, λ e. ap numberOf (unfit d e call));
+  answers = λ d call. (told d call, λ e. ap numberOf (unfit d e call));
   zero = accepted-only;
   rows = sample-rows;
   stores = λ d address value fit low unkept. stored d address fit value low (free address unkept);

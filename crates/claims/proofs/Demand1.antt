@@ -3,7 +3,7 @@ use Prim.Native.Nat.{ℕ, suc, zero, _+_, _*_, _≤_, _<_}
 use native.Mathlib.Omega.{arith}
 use native.Mathlib.Nat.{zero-add, add-zero, add-suc, suc-add}
 use mathlib.Core.Path.{_≡_, refl, sym, _∙_}
-use mathlib.Core.Logic.{_≢_}
+use mathlib.Core.Logic.{_≢_, inl}
 use mathlib.Core.Bool.{Bool, true, false, cond, or-true}
 use mathlib.Core.List.{List, [], _∷_, _++_, append-assoc, append-nil}
 use lib.Dec.{ltb}
@@ -21,27 +21,28 @@ use Rattle.session.specs.Session.{numberFor, leftFor, shownFor, State, begun, a
 use Rattle.session.specs.Session.Laws.{run-counts, answers-length, refused-leaves}
 use Rattle.session.specs.Printed.{linesOf, bodyOf, tooLong, printedOf, roomFor, printedWithin}
 use Rattle.kexbardi_files.specs.Files.{filled, printLeft}
+use Rattle.claims.specs.Calls.{Answered}
 use Rattle.claims.specs.Demand1.{Whole, Demand1}
-use Rattle.claims.proofs.Calls.{small, called}
+use Rattle.claims.proofs.Calls.{told, called}
 use Rattle.claims.proofs.Names.{names}
 
 -- ---- the answers of a file
 
 -- a file's records are stores, samples, and refused with 1, 2 or 3
-answers-small : (file : List ℕ) (at : ℕ) (d : Desk) (i : ℕ) → getD (answersFor d (recordsFrom file at)) i 0 ≤ 9
+answers-told : (file : List ℕ) (at : ℕ) (d : Desk) (i : ℕ) → Answered (getD (answersFor d (recordsFrom file at)) i 0)
 unfolding answersFor
-answers-small file = by-records file Small end more
+answers-told file = by-records file Told end more
   where
-    Small : ℕ → Type 0
-    Small at = (d : Desk) (i : ℕ) → getD (answersFor d (recordsFrom file at)) i 0 ≤ 9
+    Told : ℕ → Type 0
+    Told at = (d : Desk) (i : ℕ) → Answered (getD (answersFor d (recordsFrom file at)) i 0)
 
-    end : (at : ℕ) → length file ≤ at → Small at
-    end at h d i = rw (records-end file at h) (omega arith)
+    end : (at : ℕ) → length file ≤ at → Told at
+    end at h d i = rw (records-end file at h) (inl (omega arith))
 
-    more : (at : ℕ) → at < length file → Small (recordAt file at .next) → Small at
+    more : (at : ℕ) → at < length file → Told (recordAt file at .next) → Told at
     more at h rest d zero =
         rw (records-step file at h)
-        (every-record (λ x. numberFor d x ≤ 9) (λ address value. small d (store address value)) (λ k raw. small d (sample k raw)) (omega arith) (omega arith) (omega arith) file at)
+        (every-record (λ x. Answered (numberFor d x)) (λ address value. told d (store address value)) (λ k raw. told d (sample k raw)) (inl (omega arith)) (inl (omega arith)) (inl (omega arith)) file at)
     more at h rest d (suc i) = rw (records-step file at h) (rest (leftFor d (recordAt file at .item)) i)
 
 -- the answer to a record is that of the desk as the records before left it
@@ -57,13 +58,13 @@ unfolding runOf
 run-last t [] x = refl
 run-last t (y ∷ before) x = run-last (after t y) before x
 
-numbers-small : (file : List ℕ) (d : Desk) (i : ℕ) → getD (answersOf file d) i 0 ≤ 9
+numbers-told : (file : List ℕ) (d : Desk) (i : ℕ) → Answered (getD (answersOf file d) i 0)
 unfolding answersOf
-numbers-small file d i = go (fittingOf d)
+numbers-told file d i = go (fittingOf d)
   where
-    go : (b : Bool) → getD (cond b (answersFor d (recordsOf file)) []) i 0 ≤ 9
-    go true = answers-small file 0 d i
-    go false = omega arith
+    go : (b : Bool) → Answered (getD (cond b (answersFor d (recordsOf file)) []) i 0)
+    go true = answers-told file 0 d i
+    go false = inl (omega arith)
 
 -- ---- the answers' buffer: values stored from a place on, as far as there is room
 
@@ -182,7 +183,7 @@ demand-1 = record {
       let c = run-counts (begun d) (recordsOf file) in
       rw fit (refl, omega (arith, c), answers-length d (recordsOf file) ∙ sym (omega (arith, c)), omega (arith, c));
   refusals = (refl, λ l. omega arith, λ a l. rw (ne-eqb (suc a) 0 (λ e. omega (arith, e))) (omega arith));
-  numbers = numbers-small;
+  numbers = numbers-told;
   each = λ file d fit before x after e. (
     rw (fit, e) (answer-at (begun d) before x after),
     run-last (begun d) before x,

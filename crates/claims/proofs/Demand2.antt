@@ -4,10 +4,9 @@ use native.Mathlib.Omega.{arith}
 use mathlib.Core.Path.{_≡_, refl, sym, ap, _∙_}
 use mathlib.Core.List.{List, [], _∷_, _++_}
 use mathlib.Core.Bool.{Bool, true, false}
-use lib.IntN.{ℤ}
-use lib.ListN.{length, getD}
-use lib.Seq.{length-sets}
-use borrow.Author.Tests.{eq-eqb, le-ltb, ltb-false}
+use lib.IntN.{ℤ, pos}
+use lib.ListN.{length, getD, set}
+use borrow.Author.Tests.{eq-eqb, ne-eqb, le-ltb, ltb-false}
 use Rattle.refusals.specs.declared.Answer.{Answer}
 use Rattle.refusals.specs.declared.Answer.the-variants.{Accepted, Refused}
 use Rattle.refusals.specs.declared.Refusal.the-variants.{Record}
@@ -16,29 +15,43 @@ use Rattle.refusals.specs.Refusals.Laws.{accepted-only, accepted-rest}
 use Rattle.table.specs.declared.reading.Reading.{Reading}
 use Rattle.table.specs.Words.{baseOf, blockAt}
 use Rattle.table.specs.Words.Laws.{block-at}
-use Rattle.table.specs.Reading.Laws.{numbered, reading-local}
+use Rattle.table.specs.Transfers.{majorOf}
+use Rattle.table.specs.Transfers.Laws.{limits-same}
+use Rattle.table.specs.Reading.Laws.{numbered, reading-local, transferred}
 use Rattle.carried.specs.declared.record.Carried.{Carried}
 use Rattle.carried.specs.Layout.{slotOf, outOfRange, recordFrom, numbersOf, numbersAt, recordAt}
-use Rattle.judging.specs.Judging.{readingCases, Passed}
-use Rattle.judging.specs.Judging.Laws.{passed, passing}
+use Rattle.judging.specs.Judging.{readingCases, transferCases, Passed}
+use Rattle.judging.specs.Judging.Laws.{passed, passing, Transferred, good-transfer}
 use Rattle.engine.specs.declared.stepping.Stepped.{Stepped}
-use Rattle.engine.specs.Sensing.{setpointOf, targetOf, profiledOf, faultAfter, sensedOf}
+use Rattle.engine.specs.Sensing.{pvIn, setpointOf, targetOf, profiledOf, faultAfter, sensedOf}
 use Rattle.engine.specs.Driving.{drivenOf}
-use Rattle.engine.specs.Writing.{statusWord, writtenOf}
-use Rattle.engine.specs.Writing.Laws.{written-length, written-other, written-there, written-block}
+use Rattle.engine.specs.Writing.{statusWord, writtenOf, writtenTo}
 use Rattle.engine.specs.Steps.{stepOf}
 use Rattle.reader.specs.File.{recordsOf}
-use Rattle.desk.specs.Desk.{Desk, fittingOf, memoryCases, loopCases, leftBy, readingBy, readingAt, stepAt, sampleDone, sampleAnswer, sampleLeft, lineOf}
-use Rattle.desk.specs.Desk.Laws.{fits, known-loop, sampled, own-numbers, other-numbers, answer-ranged}
+use Rattle.desk.specs.Desk.{Desk, fittingOf, memoryCases, loopCases, leftBy, readingBy, readingAt, judgedCases, stepAt, marks, sampleDone, sampleAnswer, sampleLeft, lineOf}
+use Rattle.desk.specs.Desk.Laws.{fits, known-loop, judged-past, sampled, answer-ranged, done-lengths, major-there, own-numbers, own-words, own-block, major-word, other-words, other-numbers, marked-numbers}
 use Rattle.desk.specs.Lists.Laws.{by-answer, range-kept, range-behind}
 use Rattle.session.specs.Session.{begun as started, callsOf, leftOf}
 use Rattle.session.specs.Session.Laws.{run-desk}
 use Rattle.kexbardi.specs.Interface.{lineLeft}
 use Rattle.claims.specs.Turns.{Made, one, file, Turn, found, madeLeft, behind, behindAll}
-use Rattle.claims.specs.Demand2.{Acceptable, Other, Done, Agree, InRange, Demand2}
+use Rattle.claims.specs.Demand2.{transferAt, pvAt, ToMajor, Acceptable, Other, Done, Agree, InRange, Demand2}
 use Rattle.claims.proofs.Turns.{unfit-behind, record-found, record-behind}
 
 -- ---- when it is accepted
+
+-- N11 by the limits that were read, and by the words where they stand
+module _ (d : Desk) (k raw : ℕ) (on : transferAt d k .on ≡ true) where
+  read : (transferAt d k .major ≡ 0 → ⊥)
+      → (transferAt d k .limits .low ≡ getD (d .words) (baseOf (transferAt d k .major) + 24) 0)
+      × (transferAt d k .limits .high ≡ getD (d .words) (baseOf (transferAt d k .major) + 25) 0)
+  read some = let c = recordAt (d .numbers) k in let t = transferred (d .words) k (c .state .mode) (c .state .profile .segment) on some in (t .1, t .2)
+
+  from-major : ToMajor d k raw → Transferred (transferAt d k) (pvAt d k raw)
+  from-major m = let e = read (m .major) in record { major = m .major; low = rw (e .0) (m .low); high = rw (e .1) (m .high) }
+
+  to-major : Transferred (transferAt d k) (pvAt d k raw) → ToMajor d k raw
+  to-major m = let e = read (m .major) in record { major = m .major; low = rw (e .0) at (m .low); high = rw (e .1) at (m .high) }
 
 acceptable : (d : Desk) (k raw : ℕ) → Acceptable d k raw → numberOf (sampleAnswer d k raw) ≡ 0
 acceptable d k raw a =
@@ -46,58 +59,80 @@ acceptable d k raw a =
     let above = le-ltb (readingAt d k .settings .mode2 .input .scale) raw (a .below) in
     let p : Passed (readingAt d k) raw
     = record { digit = r .digit; modes = r .modes; ends = r .ends; times = r .times; limits = r .limits; setpoint = r .setpoint; above = above } in
-    let e : sampleAnswer d k raw ≡ Accepted = answer-ranged d k raw (a .memory) (a .loop .0) (a .loop .1) ∙ rw (a .carried) (passing (readingAt d k) raw p) in
+    let good = good-transfer (transferAt d k) (pvAt d k raw) (λ on. from-major d k raw on (a .transfer on)) in
+    let e : sampleAnswer d k raw ≡ Accepted
+    = answer-ranged d k raw (a .memory) (a .loop .0) (a .loop .1) ∙ rw (a .carried) (judged-past (readingAt d k) raw (passing (readingAt d k) raw p) ∙ rw good) in
     ap numberOf e
 
 only-then : (d : Desk) (k raw : ℕ) → numberOf (sampleAnswer d k raw) ≡ 0 → Acceptable d k raw
 unfolding sampleAnswer
 only-then d k raw z =
     let e = accepted-only (sampleAnswer d k raw) z in
-    let p = accepted-rest (memoryCases d) (loopCases (d .numbers) k ++ readingCases (readingAt d k) raw) e in
-    let q = accepted-rest (loopCases (d .numbers) k) (readingCases (readingAt d k) raw) (p .1) in
+    let p = accepted-rest (memoryCases d) (loopCases (d .numbers) k ++ judgedCases (readingAt d k) raw) e in
+    let q = accepted-rest (loopCases (d .numbers) k) (judgedCases (readingAt d k) raw) (p .1) in
+    let j = accepted-rest (readingCases (readingAt d k) raw) (transferCases (transferAt d k) (pvAt d k raw)) (q .1) in
     let loop = known-loop (d .numbers) k (q .0) in
-    let r = passed (readingAt d k) raw (q .1) in
+    let r = passed (readingAt d k) raw (j .0) in
     record {
       memory = fits d (p .0);
       loop = (loop .above, loop .below);
       carried = loop .range;
       reading = record { digit = r .digit; modes = r .modes; ends = r .ends; times = r .times; limits = r .limits; setpoint = r .setpoint };
       below = ltb-false _ _ (r .above);
+      transfer = λ on. to-major d k raw on (sampled d k raw e .transfer on);
     }
 
 -- ---- what a sample leaves
 
 exactly : (d : Desk) (k raw : ℕ) → numberOf (sampleAnswer d k raw) ≡ 0 → Done d (sampleLeft d k raw) k raw
-unfolding sampleLeft sampleDone
+unfolding sampleLeft
 exactly d k raw e =
     let a = accepted-only (sampleAnswer d k raw) e in
     let s = sampled d k raw a in
-    let w = written-there (d .words) (baseOf k) (stepAt d k raw .written) (omega (arith, s .memory .words, s .above, s .below)) in
+    let w = own-words d k raw s in
     rw a (record { word = w .word; setpoint = w .setpoint; pv = w .pv; bias = w .bias; output = w .output; status = w .status; flags = w .flags; fault = w .fault; numbers = own-numbers d k raw s })
 
 line-shown : (d : Desk) (k raw : ℕ) (line : List ℕ) → numberOf (sampleAnswer d k raw) ≡ 0 → lineLeft d k raw line ≡ lineOf (sampleLeft d k raw .words) k
 unfolding lineLeft
 line-shown d k raw line e = rw (eq-eqb (numberOf (sampleAnswer d k raw)) 0 e)
 
-words-kept : (d : Desk) (k raw i : ℕ) → Other k i → getD (sampleLeft d k raw .words) i 0 ≡ getD (d .words) i 0
-unfolding sampleLeft sampleDone
+handed-over : (d : Desk) (k raw : ℕ) → numberOf (sampleAnswer d k raw) ≡ 0 → transferAt d k .on ≡ true → let j = transferAt d k .major in
+    (readingAt d k .settings .pointer ≡ baseOf j + 5)
+    × (getD (sampleLeft d k raw .words) (baseOf j + 5) 0 ≡ pvAt d k raw)
+    × (numbersAt (sampleLeft d k raw .numbers) (slotOf j) ≡ set (numbersAt (d .numbers) (slotOf j)) 13 (pos 1))
+unfolding sampleLeft stepOf writtenOf sensedOf
+handed-over d k raw e on =
+    let a = accepted-only (sampleAnswer d k raw) e in
+    let s = sampled d k raw a in
+    let m = major-there d k raw s on in
+    let all : marks (transferAt d k) (transferAt d k .major) ≡ true = rw (on, eq-eqb (transferAt d k .major) (transferAt d k .major) refl) in
+    rw a (m .output, major-word d k raw s on, marked-numbers d k raw s (transferAt d k .major) (m .above) (m .other) all)
+
+words-kept : (d : Desk) (k raw i : ℕ) → Other d k i → getD (sampleLeft d k raw .words) i 0 ≡ getD (d .words) i 0
+unfolding sampleLeft
 words-kept d k raw i o =
     by-answer (λ (e : Desk). getD (e .words) i 0 ≡ getD (d .words) i 0) (sampleAnswer d k raw)
-    (λ _. written-other (d .words) (baseOf k) (stepAt d k raw .written) i
-    (record { mode = o .mode; setpoint = o .setpoint; pv = o .pv; bias = o .bias; output = o .output; status = o .status; flags = o .flags; fault = o .fault })) refl
+    (λ a. other-words d k raw (sampled d k raw a) i
+    (record { mode = o .mode; setpoint = o .setpoint; pv = o .pv; bias = o .bias; output = o .output; status = o .status; flags = o .flags; fault = o .fault })
+    (o .pointed)) refl
 
-records-kept : (d : Desk) (k raw j : ℕ) → 1 ≤ j → (j ≡ k → ⊥) → numbersAt (sampleLeft d k raw .numbers) (slotOf j) ≡ numbersAt (d .numbers) (slotOf j)
+records-kept : (d : Desk) (k raw j : ℕ) → 1 ≤ j → (j ≡ k → ⊥) → (transferAt d k .on ≡ true → j ≡ transferAt d k .major → ⊥)
+    → numbersAt (sampleLeft d k raw .numbers) (slotOf j) ≡ numbersAt (d .numbers) (slotOf j)
 unfolding sampleLeft
-records-kept d k raw j first other =
+records-kept d k raw j first other unmarked =
     by-answer (λ (e : Desk). numbersAt (e .numbers) (slotOf j) ≡ numbersAt (d .numbers) (slotOf j)) (sampleAnswer d k raw)
-    (λ a. other-numbers d k raw (sampled d k raw a) j first other) refl
+    (λ a. other-numbers d k raw (sampled d k raw a) j first other (none (transferAt d k .on) refl)) refl
+  where
+    none : (b : Bool) → transferAt d k .on ≡ b → marks (transferAt d k) j ≡ false
+    none true on = rw (on, ne-eqb (transferAt d k .major) j (λ e. unmarked on (sym e)))
+    none false off = rw off
 
 lengths-kept : (d : Desk) (k raw : ℕ)
     → (length (sampleLeft d k raw .words) ≡ length (d .words)) × (length (sampleLeft d k raw .numbers) ≡ length (d .numbers))
-unfolding sampleLeft sampleDone
+unfolding sampleLeft
 lengths-kept d k raw =
     by-answer (λ (e : Desk). (length (e .words) ≡ length (d .words)) × (length (e .numbers) ≡ length (d .numbers))) (sampleAnswer d k raw)
-    (λ _. (written-length (d .words) (baseOf k) (stepAt d k raw .written), length-sets (d .numbers) (slotOf k) (numbersOf (stepAt d k raw .carried)))) (refl, refl)
+    (λ _. done-lengths d k raw) (refl, refl)
 
 -- ---- two loops that agree
 
@@ -120,14 +155,15 @@ module _ (d d′ : Desk) (k k′ raw : ℕ) (agree : Agree d d′ k k′) where
   reading-same : readingAt d k ≡ numbered k (readingAt d′ k′)
   reading-same =
       let state = recordAt (d .numbers) k .state in
-      reading-local (d .words) (d′ .words) k k′ (state .mode) (state .profile .segment) (agree .words) (agree .pointed) (agree .table)
+      reading-local (d .words) (d′ .words) k k′ (state .mode) (state .profile .segment) (agree .words) (agree .pointed)
+      (λ on. (agree .major on, limits-same (d .words) (d′ .words) (majorOf k (readingAt d k .settings .pointer)) (agree .limits on))) (agree .table)
       ∙ ap (λ (c : Carried). numbered k (readingBy (d′ .words) k′ c)) carried-same
 
   answer-same : sampleAnswer d k raw ≡ sampleAnswer d′ k′ raw
   answer-same =
       answer-ranged d k raw (agree .memory) (agree .loop .0) (agree .loop .1)
-      ∙ ap (λ (ns : List ℤ). firstOf ((outOfRange ns ⇒ Record) ∷ readingCases (readingAt d k) raw)) (agree .numbers)
-      ∙ ap (λ (r : Reading). firstOf ((outOfRange (numbersAt (d′ .numbers) (slotOf k′)) ⇒ Record) ∷ readingCases r raw)) reading-same
+      ∙ ap (λ (ns : List ℤ). firstOf ((outOfRange ns ⇒ Record) ∷ judgedCases (readingAt d k) raw)) (agree .numbers)
+      ∙ ap (λ (r : Reading). firstOf ((outOfRange (numbersAt (d′ .numbers) (slotOf k′)) ⇒ Record) ∷ judgedCases r raw)) reading-same
       ∙ sym (answer-ranged d′ k′ raw (agree .memory′) (agree .loop′ .0) (agree .loop′ .1))
 
   step-same : stepAt d k raw ≡ stepAt d′ k′ raw
@@ -136,9 +172,11 @@ module _ (d d′ : Desk) (k k′ raw : ℕ) (agree : Agree d d′ k k′) where
       ∙ ap (λ (c : Carried). stepOf (numbered k (readingAt d′ k′)) c raw) carried-same
       ∙ step-numbered k (readingAt d′ k′) (recordAt (d′ .numbers) k′) raw
 
-  block-same : blockAt (sampleDone d k raw .words) (baseOf k) ≡ blockAt (sampleDone d′ k′ raw .words) (baseOf k′)
-  unfolding sampleDone
-  block-same = rw (written-block, written-block) (rw (agree .words, step-same))
+  block-same : sampleAnswer d k raw ≡ Accepted → blockAt (sampleDone d k raw .words) (baseOf k) ≡ blockAt (sampleDone d′ k′ raw .words) (baseOf k′)
+  block-same a =
+      let same : writtenTo (blockAt (d .words) (baseOf k)) 0 (stepAt d k raw .written) ≡ writtenTo (blockAt (d′ .words) (baseOf k′)) 0 (stepAt d′ k′ raw .written)
+      = rw (agree .words, step-same) in
+      own-block d k raw (sampled d k raw a) ∙ same ∙ sym (own-block d′ k′ raw (sampled d′ k′ raw (sym answer-same ∙ a)))
 
   numbers-same : sampleAnswer d k raw ≡ Accepted
       → numbersAt (sampleDone d k raw .numbers) (slotOf k) ≡ numbersAt (sampleDone d′ k′ raw .numbers) (slotOf k′)
@@ -150,7 +188,7 @@ module _ (d d′ : Desk) (k k′ raw : ℕ) (agree : Agree d d′ k k′) where
   left-same : (a : Answer) → sampleAnswer d k raw ≡ a → let e = leftBy a (sampleDone d k raw) d in
       let e′ = leftBy a (sampleDone d′ k′ raw) d′ in
       (blockAt (e .words) (baseOf k) ≡ blockAt (e′ .words) (baseOf k′)) × (numbersAt (e .numbers) (slotOf k) ≡ numbersAt (e′ .numbers) (slotOf k′))
-  left-same Accepted e = (block-same, numbers-same e)
+  left-same Accepted e = (block-same e, numbers-same e)
   left-same (Refused why) e = (agree .words, agree .numbers)
 
   words-alike : (blockAt (sampleLeft d k raw .words) (baseOf k) ≡ blockAt (sampleLeft d′ k′ raw .words) (baseOf k′))
@@ -188,12 +226,20 @@ demand-2 = record {
   accepted = acceptable;
   only = only-then;
   exact = exactly;
+  handed = handed-over;
   line = line-shown;
   other-words = words-kept;
   other-records = records-kept;
   lengths = lengths-kept;
   local = λ d d′ k k′ raw line agree.
       let w = words-alike d d′ k k′ raw agree in
-      (answer-same d d′ k k′ raw agree, w .0, w .1, line-alike d d′ k k′ raw agree line);
+      let same = reading-same d d′ k k′ raw agree in (
+        answer-same d d′ k k′ raw agree,
+        w .0,
+        w .1,
+        line-alike d d′ k k′ raw agree line,
+        ap (λ (r : Reading). r .transfer) same,
+        ap (λ (r : Reading). pvIn r raw) same,
+      );
   ranges = λ d ts k above below h. all-ranges k above below d ts h;
 }

@@ -1,4 +1,4 @@
--- Demand 3, proved: a turn keeps the loop's record tied to its plain loop, whatever it lends; so every turn behind any others is good.
+-- Demand 3, proved: a turn keeps the records tied to the plain loops, whatever it lends; so every turn behind any others is good.
 use Prim.Native.Nat.{ℕ, zero, suc, _+_, _≤_, _<_}
 use native.Mathlib.Omega.{arith}
 use mathlib.Core.Path.{_≡_, refl, ap, _∙_}
@@ -13,13 +13,13 @@ use Rattle.reader.specs.File.{recordsOf}
 use Rattle.table.specs.declared.reading.Reading.{Reading}
 use Rattle.table.specs.Modes.{isManual}
 use Rattle.carried.specs.declared.record.State.{State}
-use Rattle.carried.specs.Layout.{recordAt}
 use Rattle.engine.specs.Sensing.{sensedOf}
-use Rattle.plain.specs.Plain.{Plain, begun, countAfter, movedBy, plainAfter, tolerance}
-use Rattle.plain.specs.Plain.Laws.{Tied, start-tied, within-one}
+use Rattle.plain.specs.Plain.{Plain, countAfter, movedBy, plainAfter, tolerance}
+use Rattle.plain.specs.Plain.Laws.{within-one}
 use Rattle.desk.specs.Desk.{Desk, fittingOf}
-use Rattle.desk.specs.Lists.{Call, reset, store, sample, answerTo, deskBehind, fed, plainBehind, Claim}
-use Rattle.desk.specs.Lists.Laws.{unfit, plain-append}
+use Rattle.desk.specs.Lists.{Call, reset, store, sample, answerTo, deskBehind, Plains, begunAll, fed, plainsBehind, Claim}
+use Rattle.desk.specs.Lists.Laws.{unfit, plains-append}
+use Rattle.desk.proofs.Accuracy.{TiedAll, all-begun}
 use Rattle.desk.proofs.Accuracy as accuracy
 use Rattle.session.specs.Session.{begun as started, runOf, callsOf, leftOf}
 use Rattle.session.specs.Session.Laws.{run-desk}
@@ -29,62 +29,65 @@ use Rattle.claims.proofs.Turns.{unfit-behind, record-found, record-behi
 use Rattle.claims.proofs.Demand1.{demand-1}
 use Rattle.claims.specs.Demand3.{Direct, Good, Counted, Demand3}
 
-module _ (k : ℕ) (above : 1 ≤ k) (below : k ≤ 16) where
-  -- ---- memory of the right lengths
+-- an answer of 0 is an acceptance
+direct : (k : ℕ) (d : Desk) (q : Plain) (call : Call) → Claim k d q call → Direct k d q call
+unfolding Claim
+direct k d q reset c = tt
+direct k d q (store address value) c = tt
+direct k d q (sample j raw) c = λ same zero. c same (accepted-only _ zero)
 
-  module _ (d : Desk) (q : Plain) (fit : fittingOf d ≡ true) (tied : Tied (recordAt (d .numbers) k) q) where
-    -- an answer of 0 is an acceptance
-    direct : (call : Call) → Claim k d (fed k q d call) call → Direct k d (fed k q d call) call
-    unfolding Claim
-    direct reset c = tt
-    direct (store address value) c = tt
-    direct (sample j raw) c = λ same zero. c same (accepted-only _ zero)
+-- a call is good of each loop
+abbrev GoodAll : Plains → Desk → Made → Type 0
+GoodAll qs d m = (k : ℕ) → 1 ≤ k → k ≤ 16 → Good k qs d m
 
-    good : (m : Made) → Good k q d m × Tied (recordAt (madeLeft d m .numbers) k) (fedMade k q d m)
-    unfolding madeLeft fedMade leftOf
-    good (one call) = let r = accuracy.one k above d q tied call in (direct call (r .0), r .1)
-    good (file bytes) =
-        let calls = callsOf (recordsOf bytes) in
-        let r = accuracy.all k above calls d q tied in
-        let left : runOf (started d) (recordsOf bytes) .desk ≡ deskBehind d calls = run-desk (started d) (recordsOf bytes) in
-        (λ _. (r .0, rw fit left), rw (fit, left) (r .1))
+-- ---- memory of the right lengths
 
-  -- ---- memory of the wrong lengths: every call is refused, and leaves it
+module _ (d : Desk) (qs : Plains) (fit : fittingOf d ≡ true) (tied : TiedAll (d .numbers) qs) where
+  good : (m : Made) → GoodAll qs d m × TiedAll (madeLeft d m .numbers) (fedMade qs d m)
+  unfolding madeLeft fedMade leftOf fed
+  good (one call) = let r = accuracy.one d qs tied call in (λ k above below. direct k d _ call (r .0 k above below), r .1)
+  good (file bytes) =
+      let calls = callsOf (recordsOf bytes) in
+      let r = accuracy.all calls d qs tied in
+      let left : runOf (started d) (recordsOf bytes) .desk ≡ deskBehind d calls = run-desk (started d) (recordsOf bytes) in
+      (λ k above below _. (r .0 k above below, rw fit left), rw (fit, left) (r .1))
 
-  module _ (d : Desk) (q : Plain) (wrong : fittingOf d ≡ false) where
-    stopped : (bytes : List ℕ) → numberTo d (file bytes) ≡ 5
-    unfolding numberTo
-    stopped bytes = ap (λ (c : Ran). c .number) (demand-1 .memory bytes d 0 0 [] wrong .0)
+-- ---- memory of the wrong lengths: every call is refused, and leaves it
 
-    idle : (m : Made) → Good k q d m × (fedMade k q d m ≡ q)
-    unfolding fedMade fed
-    idle (one call) = let a = unfit d wrong call in (none call a, rw a)
-      where
-        none : (call : Call) → answerTo d call ≡ Refused Memory → Direct k d (fed k q d call) call
-        none reset e = tt
-        none (store address value) e = tt
-        none (sample j raw) e = λ same zero. absurd (omega (arith, rw e at zero))
-    idle (file bytes) = (λ zero. absurd (omega (arith, stopped bytes)), rw wrong)
+module _ (d : Desk) (qs : Plains) (wrong : fittingOf d ≡ false) where
+  stopped : (bytes : List ℕ) → numberTo d (file bytes) ≡ 5
+  unfolding numberTo
+  stopped bytes = ap (λ (c : Ran). c .number) (demand-1 .memory bytes d 0 0 [] wrong .0)
 
-  -- ---- a turn
-
-  turn : (d : Desk) (q : Plain) → Tied (recordAt (d .numbers) k) q → (t : Turn)
-      → Good k q (found d t) (t .made) × Tied (recordAt (behind d t .numbers) k) (fedMade k q (found d t) (t .made))
-  turn d q tied t = go (fittingOf (found d t)) refl
+  idle : (m : Made) → GoodAll qs d m × (fedMade qs d m ≡ qs)
+  unfolding fedMade fed
+  idle (one call) = let a = unfit d wrong call in (λ k above below. none k call a, rw a)
     where
-      go : (b : Bool) → fittingOf (found d t) ≡ b
-          → Good k q (found d t) (t .made) × Tied (recordAt (behind d t .numbers) k) (fedMade k q (found d t) (t .made))
-      go true fit =
-          let r = good (found d t) q fit (rw (record-found d t fit k above below) at tied) (t .made) in
-          (r .0, rw (record-behind d t fit k above below) (r .1))
-      go false wrong = let r = idle (found d t) q wrong (t .made) in (r .0, rw (unfit-behind d t wrong, r .1) tied)
+      none : (k : ℕ) (call : Call) → answerTo d call ≡ Refused Memory → Direct k d (fed qs d call k) call
+      none k reset e = tt
+      none k (store address value) e = tt
+      none k (sample j raw) e = λ same zero. absurd (omega (arith, rw e at zero))
+  idle (file bytes) = (λ k above below zero. absurd (omega (arith, stopped bytes)), rw wrong)
 
-  -- the turn behind some others
-  next : (before : List Turn) (d : Desk) (q : Plain) → Tied (recordAt (d .numbers) k) q → (t : Turn)
-      → Good k (fedAll k q d before) (found (behindAll d before) t) (t .made)
-  unfolding fedAll behindAll
-  next [] d q tied t = turn d q tied t .0
-  next (s ∷ before) d q tied t = next before (behind d s) (fedMade k q (found d s) (s .made)) (turn d q tied s .1) t
+-- ---- a turn
+
+turn : (d : Desk) (qs : Plains) → TiedAll (d .numbers) qs → (t : Turn)
+    → GoodAll qs (found d t) (t .made) × TiedAll (behind d t .numbers) (fedMade qs (found d t) (t .made))
+turn d qs tied t = go (fittingOf (found d t)) refl
+  where
+    go : (b : Bool) → fittingOf (found d t) ≡ b
+        → GoodAll qs (found d t) (t .made) × TiedAll (behind d t .numbers) (fedMade qs (found d t) (t .made))
+    go true fit =
+        let r = good (found d t) qs fit (λ k above below. rw (record-found d t fit k above below) at (tied k above below)) (t .made) in
+        (r .0, λ k above below. rw (record-behind d t fit k above below) (r .1 k above below))
+    go false wrong = let r = idle (found d t) qs wrong (t .made) in (r .0, rw (unfit-behind d t wrong, r .1) tied)
+
+-- the turn behind some others
+next : (before : List Turn) (d : Desk) (qs : Plains) → TiedAll (d .numbers) qs → (t : Turn)
+    → GoodAll (fedAll qs d before) (found (behindAll d before) t) (t .made)
+unfolding fedAll behindAll
+next [] d qs tied t = turn d qs tied t .0
+next (s ∷ before) d qs tied t = next before (behind d s) (fedMade qs (found d s) (s .made)) (turn d qs tied s .1) t
 
 -- ---- n
 
@@ -112,23 +115,23 @@ module _ (q : Plain) (r : Reading) (raw : ℕ) where
 
 -- ---- turns one behind the other
 
-fed-append : (k : ℕ) (q : Plain) (d : Desk) (xs ys : List Turn) → fedAll k q d (xs ++ ys) ≡ fedAll k (fedAll k q d xs) (behindAll d xs) ys
+fed-append : (qs : Plains) (d : Desk) (xs ys : List Turn) → fedAll qs d (xs ++ ys) ≡ fedAll (fedAll qs d xs) (behindAll d xs) ys
 unfolding fedAll behindAll
-fed-append k q d [] ys = refl
-fed-append k q d (t ∷ xs) ys = fed-append k (fedMade k q (found d t) (t .made)) (behind d t) xs ys
+fed-append qs d [] ys = refl
+fed-append qs d (t ∷ xs) ys = fed-append (fedMade qs (found d t) (t .made)) (behind d t) xs ys
 
-fed-file : (k : ℕ) (q : Plain) (d : Desk) (bytes : List ℕ) → fittingOf d ≡ true → fedMade k q d (file bytes) ≡ plainBehind k q d (callsOf (recordsOf bytes))
+fed-file : (qs : Plains) (d : Desk) (bytes : List ℕ) → fittingOf d ≡ true → fedMade qs d (file bytes) ≡ plainsBehind qs d (callsOf (recordsOf bytes))
 unfolding fedMade
-fed-file k q d bytes fit = rw fit
+fed-file qs d bytes fit = rw fit
 
 pub demand-3 : Demand3
 unfolding tolerance
 demand-3 = record {
-  accurate = λ d before t k above below. next k above below before d (begun (recordAt (d .numbers) k)) (start-tied (recordAt (d .numbers) k)) t;
+  accurate = λ d before t k above below. next before d (begunAll (d .numbers)) (all-begun (d .numbers)) t k above below;
   counted = count-after;
   tolerated = λ n. refl;
   one-count = within-one;
   append = fed-append;
   through = fed-file;
-  calls = plain-append;
+  calls = plains-append;
 }

@@ -4,15 +4,12 @@ use mathlib.Core.List.{[], _∷_, _++_, map}
 use lib.ListN.{length, replicate}
 use Rattle.numbers.specs.Roots.{rootOf}
 use Rattle.numbers.proofs.Examples as numbers
-use Rattle.carried.specs.Layout.{recordAt}
 use Rattle.reader.specs.File.{recordsOf}
 use Rattle.reader.proofs.Examples as reader
 use Rattle.judging.proofs.Examples as judging
 use Rattle.profile.proofs.Examples as profile
 use Rattle.engine.proofs.Starred as starred
-use Rattle.plain.specs.Plain.{begun}
 use Rattle.plain.proofs.Examples as plain
-use Rattle.desk.specs.Desk.{resetDesk}
 use Rattle.desk.proofs.Examples as desk
 use Rattle.setups.specs.Setup.{bytesFrom, setupOf, setupAnswer, setupLeft}
 use Rattle.setups.proofs.Examples as setups
@@ -44,9 +41,9 @@ pub plain-lists : map plain.from-reset (plain.loopA ∷ plain.counting ∷ plain
     ≡ map (map plain.expected) (plain.loopA ∷ plain.counting ∷ plain.entered ∷ plain.cascaded ∷ [])
 plain-lists = plain.computed
 
--- a list of calls on a desk
-pub desk-list : desk.rows resetDesk (begun (recordAt (resetDesk .numbers) 9)) desk.mixed ≡ map desk.expected desk.mixed
-desk-list = desk.computed
+-- lists of calls on a desk, and A13, N11: a cascade
+pub desk-lists : map desk.from-reset (desk.mixed ∷ desk.transfers ∷ []) ≡ map (map desk.expected) (desk.mixed ∷ desk.transfers ∷ [])
+desk-lists = desk.computed
 
 -- L13, Q12, X5: words as bytes, and the answers to a setup with the room behind each
 pub setups-computed : map (λ (c : setups.Case). bytesFrom (c .address) (c .words)) setups.cases ≡ map (λ (c : setups.Case). c .bytes) setups.cases

@@ -1,4 +1,4 @@
--- The proofs of the three demands and of what is promised of profiles, of the root and of the setup file, and the computed examples that they rest beside.
+-- The proofs of the three demands and of what is promised of profiles, of the root, of the setup file and of the transfer, and the computed examples that they rest beside.
 pub mod Turns
 pub mod Names
 pub mod Calls
@@ -8,4 +8,5 @@ pub mod Setups
 pub mod Demand1
 pub mod Demand2
 pub mod Demand3
+pub mod Transfers
 pub mod Examples

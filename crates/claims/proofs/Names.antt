@@ -1,20 +1,18 @@
 -- What the names in the demands stand for, proved: most by the definitions themselves.
 use Prim.Native.Nat.{ℕ}
 use mathlib.Core.Path.{_≡_, refl}
-use mathlib.Core.Bool.{false}
-use lib.Dec.{eqb}
 use lib.ListN.{length}
 use borrow.Author.Tests.{eq-eqb, ne-eqb, lt-ltb, le-ltb}
 use Rattle.refusals.specs.declared.Answer.{Answer}
 use Rattle.refusals.specs.declared.Answer.the-variants.{Accepted, Refused}
 use Rattle.carried.specs.Layout.Laws.{read-back, rows-in, in-rows}
-use Rattle.plain.specs.Plain.{Plain}
+use Rattle.plain.specs.Plain.{plainMarked}
 use Rattle.desk.specs.Desk.{Desk, remainingOf}
 use Rattle.desk.specs.Desk.Laws.{reset-numbers}
-use Rattle.desk.specs.Lists.{store, sample, answerTo, deskAfter, deskBehind, fedBy, fed, plainBehind}
+use Rattle.desk.specs.Lists.{store, sample, answerTo, deskAfter, deskBehind, Plains, sampledAll, fedBy, fed, plainsBehind}
 use Rattle.session.specs.Session.{runOf, callsOf}
 use Rattle.claims.specs.Turns.{behindAll, fedAll}
-use Rattle.claims.specs.Names.{OfPlaces, OfCalls, OfPlain, Names}
+use Rattle.claims.specs.Names.{OfPlaces, OfCalls, OfPlains, Names}
 
 places : OfPlaces
 places = record {
@@ -43,22 +41,19 @@ calls d = record {
   start = refl;
 }
 
-module _ (k : ℕ) (q : Plain) (d : Desk) where
-  -- a store moves nothing, whatever its answer; nor does a sample of another loop
-  of-store : (a : Answer) (address value : ℕ) → fedBy k q d a (store address value) ≡ q
+module _ (qs : Plains) (d : Desk) where
+  -- a store moves nothing, whatever its answer
+  of-store : (a : Answer) (address value : ℕ) → fedBy qs d a (store address value) ≡ qs
   of-store Accepted address value = refl
   of-store (Refused why) address value = refl
 
-  of-other : (a : Answer) (j raw : ℕ) → eqb j k ≡ false → fedBy k q d a (sample j raw) ≡ q
-  of-other Accepted j raw e = rw e
-  of-other (Refused why) j raw e = refl
-
-  beside : OfPlain k q d
-  unfolding fed plainBehind fedAll behindAll deskAfter
+  beside : OfPlains qs d
+  unfolding fed sampledAll plainsBehind fedAll behindAll deskAfter
   beside = record {
+    begins = λ k. refl;
     refused = λ call why e. rw e;
-    own = λ raw e. rw (e, eq-eqb k k refl);
-    other = λ j raw ne. of-other (answerTo d (sample j raw)) j raw (ne-eqb j k ne);
+    own = λ k raw e. rw (e, eq-eqb k k refl);
+    other = λ j k raw ne e. rw (e, ne-eqb j k ne);
     stored = λ address value. of-store (answerTo d (store address value)) address value;
     anew = λ e. rw e;
     none = refl;
@@ -68,12 +63,14 @@ module _ (k : ℕ) (q : Plain) (d : Desk) where
   }
 
 pub names : Names
-unfolding callsOf remainingOf
+unfolding callsOf remainingOf plainMarked
 names = record {
   places = places;
   calls = calls;
   listed = λ xs. (refl, λ why. refl, λ address value. refl, λ k raw. refl);
   beside = beside;
+  marked = λ q. refl;
+  whom = λ t j. refl;
   reads = λ d k. refl;
   steps = λ d k raw. refl;
   line = λ ws k. refl;

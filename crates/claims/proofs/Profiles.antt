@@ -13,6 +13,7 @@ use Rattle.table.specs.Settings.{settingsOf}
 use Rattle.table.specs.Programs.{faultOf, pairAt, pairNumber}
 use Rattle.table.specs.Programs.Laws.{program-pair, program-fault}
 use Rattle.table.specs.Reading.{tableOf, readingOf}
+use Rattle.table.specs.Reading.Laws.{no-transfer}
 use Rattle.profile.specs.declared.state.Profile.{Profile}
 use Rattle.profile.specs.Moves.{commandOf, endedOf, advancedBy}
 use Rattle.profile.specs.Moves.Laws.{advanced-stays}
@@ -59,11 +60,16 @@ module _ (d : Desk) (k raw : ℕ) where
   q = recordAt (d .numbers) k .state .profile
 
   -- the setpoint is word 2, at an entry too
-  word-2 : isCascade (r .mode) ≡ false → (entry : Bool) (p : ℕ) → targetOf r entry true p ≡ getD (d .words) (baseOf k + 2) 0
-  unfolding targetOf setpointOf readingOf settingsOf
-  word-2 e entry p =
-      unforced (entry && isAutomatic (r .mode) && not (r .settings .mode1 .bumpless)) p (setpointOf r)
-      ∙ rw e (block-at (d .words) (baseOf k) 2 (lit< tt))
+  stored : r .settings .stored .setpoint ≡ getD (d .words) (baseOf k + 2) 0
+  unfolding readingOf settingsOf
+  stored = block-at (d .words) (baseOf k) 2 (lit< tt)
+
+  word-2 : isCascade (r .mode) ≡ false → (change : Bool) (p : ℕ) → targetOf r change true p ≡ getD (d .words) (baseOf k + 2) 0
+  unfolding targetOf setpointOf
+  word-2 e change p =
+      let c = recordAt (d .numbers) k in
+      rw (no-transfer (d .words) k (c .state .mode) (c .state .profile .segment) e)
+      (unforced (change && isAutomatic (r .mode) && not (r .settings .mode1 .bumpless)) p (setpointOf r) ∙ rw e stored)
 
   word-27 : r .settings .stored .flags ≡ getD (d .words) (baseOf k + 27) 0
   unfolding readingOf settingsOf

@@ -2,6 +2,7 @@
 use Prim.Native.Nat.{ℕ, _%_, _≤_, _<_}
 use mathlib.Core.Path.{_≡_}
 use mathlib.Core.Bool.{true, false, _||_}
+use mathlib.Core.Logic.{_⊎_}
 use mathlib.Core.List.{List}
 use lib.IntN.{ℤ, pos}
 use lib.ListN.{length, set, replicate}
@@ -12,13 +13,18 @@ use Rattle.refusals.specs.Refusals.{numberOf}
 use Rattle.table.specs.declared.reading.Reading.{Reading}
 use Rattle.table.specs.Modes.{isCascade}
 use Rattle.carried.specs.Layout.{fieldCount, numberCount, slotOf, numbersAt, recordAt, outOfRange}
-use Rattle.judging.specs.Judging.{badModes, badTimes, badLimits, badSetpoint}
+use Rattle.judging.specs.Judging.{badModes, badTimes, badLimits, badSetpoint, badTransfer}
+use Rattle.engine.specs.Sensing.{pvIn}
 use Rattle.desk.specs.Desk.{Desk, lent, fittingOf, resetAnswer, resetLeft, storeAnswer, storeLeft, readingAt, sampleAnswer, sampleLeft, remainingOf, forecastAt, fieldsAnswer, fieldsLeft}
 use Rattle.desk.specs.Lists.{Call, answerTo}
 use Rattle.kexbardi.specs.Interface.{lineLeft}
 use Rattle.kexbardi_profiles.specs.Told.{toldBy}
 use Rattle.setups.specs.Setup.{setupOf}
 use Rattle.kexbardi_files.specs.Files.{filled, setupFilled}
+
+-- N1 to N9, N11: the numbers that a reset, a store, a sample and a record of a file are answered with, 0 where it is accepted
+abbrev pub Answered : ℕ → Type 0
+Answered n = (n ≤ 9) ⊎ (n ≡ 11)
 
 -- N6: the words of a loop that no store reaches
 pub data Reserved : ℕ → Type 0 where
@@ -44,13 +50,15 @@ pub record Rows (d : Desk) (k raw : ℕ) : Type 0 where
       ((r .settings .baddigit || r .program .baddigit) ≡ true → numberOf (sampleAnswer d k raw) ≡ 7)
       × ((r .settings .baddigit || r .program .baddigit) ≡ false → (Settled r → ⊥) → numberOf (sampleAnswer d k raw) ≡ 8)
       × (Settled r → r .settings .mode2 .input .scale < raw → numberOf (sampleAnswer d k raw) ≡ 9)
+      × (Settled r → raw ≤ r .settings .mode2 .input .scale → badTransfer (r .transfer) (pvIn r raw) ≡ true → numberOf (sampleAnswer d k raw) ≡ 11)
 
 pub record Called : Type 0 where
   -- N5: the lengths are 1,024 words and the records' numbers
   pub lengths : (d : Desk) → (length (d .words) ≡ 1024 → length (d .numbers) ≡ numberCount → fittingOf d ≡ true)
       × (fittingOf d ≡ true → (length (d .words) ≡ 1024) × (length (d .numbers) ≡ numberCount))
-  -- every answer to a reset, a store or a sample is 0, which is an acceptance, or a number of N1 to N9; 5 on memory of wrong lengths; a sample's that of the first rule that holds
-  pub answers : (d : Desk) (call : Call) → (numberOf (answerTo d call) ≤ 9) × (fittingOf d ≡ false → numberOf (answerTo d call) ≡ 5)
+  -- every answer to a reset, a store or a sample is 0, which is an acceptance, or a number of N1 to N9 or N11; 5 on memory of wrong lengths; a sample's
+  -- that of the first rule that holds
+  pub answers : (d : Desk) (call : Call) → Answered (numberOf (answerTo d call)) × (fittingOf d ≡ false → numberOf (answerTo d call) ≡ 5)
   pub zero : (a : Answer) → numberOf a ≡ 0 → a ≡ Accepted
   pub rows : (d : Desk) (k raw : ℕ) → fittingOf d ≡ true → Rows d k raw
   -- Q2: a store of an address that may be stored is carried out, and changes that word; any other is refused with 6 (N6)

@@ -1,5 +1,5 @@
 -- Demand 1. A drill file is any list of bytes. All of it is read: a record that the file cuts off is the last one, and behind every other record the
--- next one is read, whether that record was carried out or refused. A refusal has a number of N1 to N9, a setup's N10 too, and changes no word and no
+-- next one is read, whether that record was carried out or refused. A refusal has a number of N1 to N11, a setup's alone N10, and changes no word and no
 -- number, in a file and in a direct call; a refused direct call leaves everything that was lent to it.
 use Prim.Native.Nat.{ℕ, suc, _+_, _≤_, _<_}
 use mathlib.Core.Path.{_≡_}
@@ -17,7 +17,7 @@ use Rattle.lines.specs.Lines.{lineText, lastText}
 use Rattle.session.specs.Session.{numberFor, leftFor, shownFor, begun, runOf, refusalsIn, endedOf, leftOf, answersOf}
 use Rattle.session.specs.Printed.{bodyOf, printedOf, roomFor, printedWithin}
 use Rattle.kexbardi_files.specs.Files.{ended, endedBy, answersLeft, filled, printLeft}
-use Rattle.claims.specs.Calls.{Called}
+use Rattle.claims.specs.Calls.{Answered, Called}
 use Rattle.claims.specs.Names.{Names}
 
 -- L2 to L7: what a record is whose n bytes stand whole behind its length, with the kind at `at`
@@ -53,8 +53,8 @@ pub record Demand1 : Type 0 where
   pub counted : (file : List ℕ) (d : Desk) (count refused : ℕ) → fittingOf d ≡ true → let e = endedBy (endedOf file d) count refused in
       (e .number ≡ 0) × (e .count ≡ length (recordsOf file)) × (length (answersOf file d) ≡ e .count) × (e .refused ≡ refusalsIn (answersOf file d))
   pub refusals : (refusalsIn [] ≡ 0) × ((l : List ℕ) → refusalsIn (0 ∷ l) ≡ refusalsIn l) × ((a : ℕ) (l : List ℕ) → refusalsIn (suc a ∷ l) ≡ suc (refusalsIn l))
-  -- every answer is 0 or a number of N1 to N9
-  pub numbers : (file : List ℕ) (d : Desk) (i : ℕ) → getD (answersOf file d) i 0 ≤ 9
+  -- every answer is 0 or a number of N1 to N9 or N11
+  pub numbers : (file : List ℕ) (d : Desk) (i : ℕ) → Answered (getD (answersOf file d) i 0)
   -- O2, O5: each record is answered by the desk as those before left it, and carried out on it; where its answer is not 0, words and numbers stay
   pub each : (file : List ℕ) (d : Desk) → fittingOf d ≡ true → (before : List Record) (x : Record) (after : List Record)
       → recordsOf file ≡ before ++ (x ∷ after)

@@ -1,5 +1,5 @@
--- The client's three demands, and what is promised of profiles, of the root and of the setup file, each a type whose proof stands beside it in proofs/. They speak of
--- the definitions that the contracts of the exported calls cite: any lent words, any lent numbers, any lengths.
+-- The client's three demands, and what is promised of profiles, of the root, of the setup file and of the transfer to Cascade, each a type whose proof stands beside
+-- it in proofs/. They speak of the definitions that the contracts of the exported calls cite: any lent words, any lent numbers, any lengths.
 pub mod Turns
 pub mod Names
 pub mod Calls
@@ -9,3 +9,4 @@ pub mod Setups
 pub mod Demand1
 pub mod Demand2
 pub mod Demand3
+pub mod Transfers

@@ -3,8 +3,9 @@
 -- plain loop's sample (`plainAfter`), a forecast's count (`forecastOf`), and the text of a line.
 use Prim.Native.Nat.{ℕ, _+_, _-_, _*_, _≤_, _<_}
 use mathlib.Core.Path.{_≡_}
-use mathlib.Core.Bool.{false, cond}
+use mathlib.Core.Bool.{true, false, cond, _&&_}
 use mathlib.Core.List.{List, [], _∷_}
+use lib.Dec.{eqb}
 use lib.IntN.{ℤ, pos}
 use lib.ListN.{length, getD, take, drop, replicate}
 use Rattle.refusals.specs.declared.Refusal.{Refusal}
@@ -14,6 +15,7 @@ use Rattle.refusals.specs.Refusals.{numberOf}
 use Rattle.reader.specs.declared.Record.{Record}
 use Rattle.reader.specs.declared.Record.the-variants.{Store, Sample, Refused}
 use Rattle.reader.specs.File.{wordAt}
+use Rattle.table.specs.declared.transfer.Transfer.{Transfer}
 use Rattle.table.specs.Words.{baseOf, blockAt}
 use Rattle.table.specs.Reading.{tableOf, readingOf}
 use Rattle.profile.specs.Forecasts.{forecastOf}
@@ -21,9 +23,9 @@ use Rattle.carried.specs.declared.record.Carried.{Carried}
 use Rattle.carried.specs.Layout.{fieldCount, numberCount, slotOf, outOfRange, numbersOf, recordFrom, numbersAt, recordAt}
 use Rattle.carried.specs.Layout.Laws.{Rows}
 use Rattle.engine.specs.Steps.{stepOf}
-use Rattle.plain.specs.Plain.{Plain, begun, plainAfter}
-use Rattle.desk.specs.Desk.{Desk, lent, resetDesk, resetAnswer, resetLeft, storeAnswer, storeLeft, readingAt, stepAt, sampleAnswer, sampleLeft, remainingOf, lineOf}
-use Rattle.desk.specs.Lists.{Call, reset, store, sample, answerTo, deskAfter, deskBehind, fed, plainBehind}
+use Rattle.plain.specs.Plain.{Plain, begun, plainAfter, plainMarked}
+use Rattle.desk.specs.Desk.{Desk, lent, resetDesk, resetAnswer, resetLeft, storeAnswer, storeLeft, readingAt, stepAt, marks, sampleAnswer, sampleLeft, remainingOf, lineOf}
+use Rattle.desk.specs.Lists.{Call, reset, store, sample, answerTo, deskAfter, deskBehind, Plains, begunAll, fed, plainsBehind}
 use Rattle.session.specs.Session.{numberFor, leftFor, shownFor, runOf, callsOf}
 use Rattle.session.specs.Session.{begun as started}
 use Rattle.session.specs.Printed.{roomFor}
@@ -34,7 +36,7 @@ pub record OfPlaces : Type 0 where
   pub word : (file : List ℕ) (at : ℕ) → wordAt file at ≡ getD file at 0 + 256 * getD file (at + 1) 0
   pub base : (k : ℕ) → baseOf k ≡ 32 * (k - 1)
   pub block : (ws : List ℕ) (at : ℕ) → blockAt ws at ≡ take 32 (drop at ws)
-  pub counts : (fieldCount ≡ 13) × (numberCount ≡ 208)
+  pub counts : (fieldCount ≡ 14) × (numberCount ≡ 224)
   pub slot : (k : ℕ) → slotOf k ≡ fieldCount * (k - 1)
   pub numbers : (ns : List ℤ) (at : ℕ) → numbersAt ns at ≡ take fieldCount (drop at ns)
   -- a record is read back as it was written, and is in range where each number stands in its row
@@ -54,17 +56,22 @@ pub record OfCalls (d : Desk) : Type 0 where
   pub unread : (why : Refusal) → leftFor d (Refused why) ≡ d
   pub start : runOf (started d) [] .desk ≡ d
 
--- E3: the plain loop of loop k beside them
-pub record OfPlain (k : ℕ) (q : Plain) (d : Desk) : Type 0 where
-  pub refused : (call : Call) (why : Refusal) → answerTo d call ≡ No why → fed k q d call ≡ q
-  pub own : (raw : ℕ) → answerTo d (sample k raw) ≡ Accepted → fed k q d (sample k raw) ≡ plainAfter q (readingOf (d .words) k (q .state .mode) (q .state .profile .segment)) raw
-  pub other : (j raw : ℕ) → (j ≡ k → ⊥) → fed k q d (sample j raw) ≡ q
-  pub stored : (address value : ℕ) → fed k q d (store address value) ≡ q
-  pub anew : answerTo d reset ≡ Accepted → fed k q d reset ≡ begun (recordAt (resetLeft d .numbers) k)
-  pub none : plainBehind k q d [] ≡ q
-  pub more : (call : Call) (calls : List Call) → plainBehind k q d (call ∷ calls) ≡ plainBehind k (fed k q d call) (deskAfter d call) calls
-  pub no-turn : (fedAll k q d [] ≡ q) × (behindAll d [] ≡ d)
-  pub turn : (t : Turn) (ts : List Turn) → (fedAll k q d (t ∷ ts) ≡ fedAll k (fedMade k q (found d t) (t .made)) (behind d t) ts)
+-- E3: the plain loops beside them, that of loop k at k
+pub record OfPlains (qs : Plains) (d : Desk) : Type 0 where
+  pub begins : (k : ℕ) → begunAll (d .numbers) k ≡ begun (recordAt (d .numbers) k)
+  pub refused : (call : Call) (why : Refusal) → answerTo d call ≡ No why → fed qs d call ≡ qs
+  pub own : (k raw : ℕ) → answerTo d (sample k raw) ≡ Accepted
+      → fed qs d (sample k raw) k ≡ plainAfter (qs k) (readingOf (d .words) k (qs k .state .mode) (qs k .state .profile .segment)) raw
+  -- an accepted sample of another loop marks it by a transfer, which that loop's own plain loop tells; else it stays
+  pub other : (j k raw : ℕ) → (j ≡ k → ⊥) → answerTo d (sample j raw) ≡ Accepted
+      → let t = readingOf (d .words) j (qs j .state .mode) (qs j .state .profile .segment) .transfer in
+      fed qs d (sample j raw) k ≡ cond (marks t k) (plainMarked (qs k)) (qs k)
+  pub stored : (address value : ℕ) → fed qs d (store address value) ≡ qs
+  pub anew : answerTo d reset ≡ Accepted → fed qs d reset ≡ begunAll (resetLeft d .numbers)
+  pub none : plainsBehind qs d [] ≡ qs
+  pub more : (call : Call) (calls : List Call) → plainsBehind qs d (call ∷ calls) ≡ plainsBehind (fed qs d call) (deskAfter d call) calls
+  pub no-turn : (fedAll qs d [] ≡ qs) × (behindAll d [] ≡ d)
+  pub turn : (t : Turn) (ts : List Turn) → (fedAll qs d (t ∷ ts) ≡ fedAll (fedMade qs (found d t) (t .made)) (behind d t) ts)
       × (behindAll d (t ∷ ts) ≡ behindAll (behind d t) ts)
 
 pub record Names : Type 0 where
@@ -73,7 +80,11 @@ pub record Names : Type 0 where
   pub listed : (xs : List Record) → (callsOf [] ≡ []) × ((why : Refusal) → callsOf (Refused why ∷ xs) ≡ callsOf xs)
       × ((address value : ℕ) → callsOf (Store address value ∷ xs) ≡ store address value ∷ callsOf xs)
       × ((k raw : ℕ) → callsOf (Sample k raw ∷ xs) ≡ sample k raw ∷ callsOf xs)
-  pub beside : (k : ℕ) (q : Plain) (d : Desk) → OfPlain k q d
+  pub beside : (qs : Plains) (d : Desk) → OfPlains qs d
+  -- A13: a plain loop is marked, and nothing else of it changes; a transfer marks its major loop
+  pub marked : (q : Plain) → let s = q .state in
+      plainMarked q ≡ record { state = record { mode = s .mode; velocity = s .velocity; profile = s .profile; mark = true }; last = q .last; B = q .B; n = q .n; output = q .output }
+  pub whom : (t : Transfer) (j : ℕ) → marks t j ≡ (t .on && eqb (t .major) j)
   -- Q3: a sample: what it reads, what it comes to, and what is shown of it
   pub reads : (d : Desk) (k : ℕ) → let state = recordAt (d .numbers) k .state in readingAt d k ≡ readingOf (d .words) k (state .mode) (state .profile .segment)
   pub steps : (d : Desk) (k raw : ℕ) → stepAt d k raw ≡ stepOf (readingAt d k) (recordAt (d .numbers) k) raw

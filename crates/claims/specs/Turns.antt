@@ -8,8 +8,7 @@ use lib.ListN.{take, drop}
 use Rattle.refusals.specs.Refusals.{numberOf}
 use Rattle.reader.specs.File.{recordsOf}
 use Rattle.desk.specs.Desk.{Desk, lent, fittingOf}
-use Rattle.desk.specs.Lists.{Call, answerTo, deskAfter, fed, plainBehind}
-use Rattle.plain.specs.Plain.{Plain}
+use Rattle.desk.specs.Lists.{Call, answerTo, deskAfter, Plains, fed, plainsBehind}
 use Rattle.session.specs.Session.{callsOf, endedOf, leftOf}
 use Rattle.kexbardi_files.specs.Files.{endedBy}
 
@@ -18,7 +17,7 @@ pub data Made : Type 0 where
   one : Call → Made
   file : List ℕ → Made
 
--- E1: the words as the caller changes them, of any length; how many of the numbers are lent (208 for a sound call); the call
+-- E1: the words as the caller changes them, of any length; how many of the numbers are lent (224 for a sound call); the call
 pub record Turn : Type 0 where
   pub outside : List ℕ → List ℕ
   pub lending : ℕ
@@ -46,12 +45,12 @@ unfoldable pub behindAll : Desk → List Turn → Desk
 behindAll d [] = d
 behindAll d (t ∷ ts) = behindAll (behind d t) ts
 
--- E1, E3: the plain loop of loop k after a call; a file counts as its records, where its memory has its lengths
-unfoldable pub fedMade : ℕ → Plain → Desk → Made → Plain
-fedMade k q d (one call) = fed k q d call
-fedMade k q d (file bytes) = cond (fittingOf d) (plainBehind k q d (callsOf (recordsOf bytes))) q
+-- E1, E3: the plain loops after a call; a file counts as its records, where its memory has its lengths
+unfoldable pub fedMade : Plains → Desk → Made → Plains
+fedMade qs d (one call) = fed qs d call
+fedMade qs d (file bytes) = cond (fittingOf d) (plainsBehind qs d (callsOf (recordsOf bytes))) qs
 
 -- E1, E3: and after a list of turns
-unfoldable pub fedAll : ℕ → Plain → Desk → List Turn → Plain
-fedAll k q d [] = q
-fedAll k q d (t ∷ ts) = fedAll k (fedMade k q (found d t) (t .made)) (behind d t) ts
+unfoldable pub fedAll : Plains → Desk → List Turn → Plains
+fedAll qs d [] = qs
+fedAll qs d (t ∷ ts) = fedAll (fedMade qs (found d t) (t .made)) (behind d t) ts

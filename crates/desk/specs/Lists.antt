@@ -1,19 +1,20 @@
--- Lists of calls on a desk (E1), and what demand 3 claims of each (E2, E6): the plain loop is fed beside the desk.
+-- Lists of calls on a desk (E1), and what demand 3 claims of each (E2, E6): the sixteen plain loops are fed beside the desk.
 use Prim.Native.Nat.{ℕ, _+_, _≤_, _<_}
 use mathlib.Core.Path.{_≡_}
 use mathlib.Core.Bool.{cond}
 use mathlib.Core.List.{List, [], _∷_}
 use lib.Dec.{eqb}
-use lib.IntN.{pos}
+use lib.IntN.{ℤ, pos}
 use lib.ListN.{getD}
 use Rattle.numbers.specs.Fractions.{whole, Near}
 use Rattle.refusals.specs.declared.Answer.{Answer}
 use Rattle.refusals.specs.declared.Answer.the-variants.{Accepted, Refused}
+use Rattle.table.specs.declared.reading.Reading.{Reading}
 use Rattle.table.specs.Words.{baseOf}
 use Rattle.table.specs.Reading.{readingOf}
 use Rattle.carried.specs.Layout.{recordAt}
-use Rattle.plain.specs.Plain.{Plain, begun, plainAfter, tolerance}
-use Rattle.desk.specs.Desk.{Desk, resetAnswer, resetLeft, storeAnswer, storeLeft, sampleAnswer, sampleLeft}
+use Rattle.plain.specs.Plain.{Plain, begun, plainAfter, plainMarked, tolerance}
+use Rattle.desk.specs.Desk.{Desk, marks, resetAnswer, resetLeft, storeAnswer, storeLeft, sampleAnswer, sampleLeft}
 pub mod Laws
 
 -- E1: a reset; a value stored at an address; a sample of a loop with a raw PV
@@ -39,23 +40,40 @@ unfoldable pub deskBehind : Desk → List Call → Desk
 deskBehind d [] = d
 deskBehind d (call ∷ calls) = deskBehind (deskAfter d call) calls
 
--- ---- the plain loop of loop k beside the desk
+-- ---- the plain loops beside the desk, that of loop k at k
 
--- E3: an accepted reset begins it anew; else accepted samples of loop k alone move it, by the words that the sample reads
-abbrev pub fedBy : ℕ → Plain → Desk → Answer → Call → Plain
-fedBy k q d (Refused why) call = q
-fedBy k q d Accepted reset = begun (recordAt (deskAfter d reset .numbers) k)
-fedBy k q d Accepted (store address value) = q
-fedBy k q d Accepted (sample j raw) = cond (eqb j k) (plainAfter q (readingOf (d .words) k (q .state .mode) (q .state .profile .segment)) raw) q
+abbrev pub Plains : Type 0
+Plains = ℕ → Plain
 
--- E3: the plain loop after a call
-unfoldable pub fed : ℕ → Plain → Desk → Call → Plain
-fed k q d call = fedBy k q d (answerTo d call) call
+-- E3: each begins with its loop's record
+abbrev pub begunAll : List ℤ → Plains
+begunAll ns k = begun (recordAt ns k)
+
+-- E3: what a sample of loop j reads, the carried mode and segment being those of its plain loop
+abbrev pub readBy : Plains → Desk → ℕ → Reading
+readBy qs d j = readingOf (d .words) j (qs j .state .mode) (qs j .state .profile .segment)
+
+-- E3: an accepted sample of loop j moves its plain loop, and one that is a transfer marks that of the major loop; the others stay
+unfoldable pub sampledAll : Plains → Desk → ℕ → ℕ → Plains
+sampledAll qs d j raw k =
+    let r = readBy qs d j in
+    cond (eqb j k) (plainAfter (qs k) r raw) (cond (marks (r .transfer) k) (plainMarked (qs k)) (qs k))
+
+-- E3: an accepted reset begins all of them anew; what is refused, and a store, leaves them
+abbrev pub fedBy : Plains → Desk → Answer → Call → Plains
+fedBy qs d (Refused why) call = qs
+fedBy qs d Accepted reset = begunAll (deskAfter d reset .numbers)
+fedBy qs d Accepted (store address value) = qs
+fedBy qs d Accepted (sample j raw) = sampledAll qs d j raw
+
+-- E3: the plain loops after a call
+unfoldable pub fed : Plains → Desk → Call → Plains
+fed qs d call = fedBy qs d (answerTo d call) call
 
 -- E1, E3: and after a list of calls
-unfoldable pub plainBehind : ℕ → Plain → Desk → List Call → Plain
-plainBehind k q d [] = q
-plainBehind k q d (call ∷ calls) = plainBehind k (fed k q d call) (deskAfter d call) calls
+unfoldable pub plainsBehind : Plains → Desk → List Call → Plains
+plainsBehind qs d [] = qs
+plainsBehind qs d (call ∷ calls) = plainsBehind (fed qs d call) (deskAfter d call) calls
 
 -- ---- the claim
 
@@ -75,6 +93,6 @@ Claim k d q (sample j raw) =
     Accurate (getD (d .words) (base + 24) 0) (getD (d .words) (base + 25) 0) (getD (deskAfter d (sample j raw) .words) (base + 5) 0) q
 
 -- E1: and of every call of a list
-unfoldable pub Holds : ℕ → Plain → Desk → List Call → Type 0
-Holds k q d [] = Unit {0}
-Holds k q d (call ∷ calls) = let q′ = fed k q d call in Claim k d q′ call × Holds k q′ (deskAfter d call) calls
+unfoldable pub Holds : ℕ → Plains → Desk → List Call → Type 0
+Holds k qs d [] = Unit {0}
+Holds k qs d (call ∷ calls) = let qs′ = fed qs d call in Claim k d (qs′ k) call × Holds k qs′ (deskAfter d call) calls

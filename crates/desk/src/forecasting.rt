@@ -2,6 +2,7 @@
 use crate::finding::Found;
 use crate::finding::find_loop;
 use carried::Carried;
+use judging::bad_transfer;
 use judging::judge;
 use profile::Profile;
 use refusals::Answer;
@@ -51,14 +52,19 @@ fn foretell(words: &[u16], carried: Carried, number: u8) -> Foretold
     let answer = judge(reading, 0);
     match answer {
         Answer::Refused(why) => Foretold::Refused(why),
-        Answer::Accepted => Foretold::Samples(remaining(
-            words,
-            number,
-            reading.program.on,
-            reading.settings.tuning.period,
-            profile,
-            reading.settings.stored.setpoint,
-        )),
+        Answer::Accepted => {
+            if bad_transfer(reading.transfer, 0) {
+                return Foretold::Refused(Refusal::Transfer);
+            }
+            Foretold::Samples(remaining(
+                words,
+                number,
+                reading.program.on,
+                reading.settings.tuning.period,
+                profile,
+                reading.settings.stored.setpoint,
+            ))
+        }
     }
 }
 

@@ -1,4 +1,4 @@
--- What a sample senses: A1 to A5, with the profile between A4 and A5 (G3).
+-- What a sample senses: A1 to A5, with the transfer (A13) at A3 and A4, and the profile between A4 and A5 (G3).
 use Prim.Native.Nat.{ℕ, _*_}
 use mathlib.Core.Bool.{Bool, cond, not, _&&_, _||_, Bool·beq}
 use lib.Dec.{eqb}
@@ -21,23 +21,32 @@ pub mod Laws
 unfoldable pub pvOf : Bool → ℕ → ℕ → ℕ
 pvOf root scale raw = cond root (rootOf (raw * scale)) raw
 
+-- A1, with the loop's settings
+abbrev pub pvIn : Reading → ℕ → ℕ
+pvIn r raw = pvOf (r .settings .mode1 .root) (r .settings .mode2 .input .scale) raw
+
 -- A2 is `modeAfter` of the table: the reading has the mode that it gives
 
 -- A3: the word pointed to in Cascade, else word 2
 unfoldable pub setpointOf : Reading → ℕ
 setpointOf r = cond (isCascade (r .mode)) (r .remote) (r .settings .stored .setpoint)
 
--- A4: an entry has a mode other than Manual, where the carried mode is Manual or the carried form is the other one
+-- A4: the carried mode is Manual, or the carried form is the other one
+unfoldable pub changed : State → Bool → Bool
+changed state velocity = isManual (state .mode) || not (Bool·beq (state .velocity) velocity)
+
+-- A4: an entry has a mode other than Manual, and such a change or the mark of a transfer (A13) before it
 unfoldable pub entering : State → Mode → Bool → Bool
-entering state mode velocity = not (isManual mode) && (isManual (state .mode) || not (Bool·beq (state .velocity) velocity))
+entering state mode velocity = not (isManual mode) && (changed state velocity || state .mark)
 
 -- G11: a profile runs, held or not: there is a program, and the carried segment is above 0
 unfoldable pub runsOn : Program → Profile → Bool
 runsOn program q = program .on && not (eqb (q .segment) 0)
 
--- A4: at an entry to Automatic with Bumpless I the setpoint becomes p, unless a profile runs (G11)
+-- A13: at a transfer the setpoint becomes p. A4: and at an entry to Automatic with Bumpless I, by such a change, unless a profile runs (G11)
 unfoldable pub targetOf : Reading → Bool → Bool → ℕ → ℕ
-targetOf r entry runs p = cond (entry && isAutomatic (r .mode) && not (r .settings .mode1 .bumpless) && not runs) p (setpointOf r)
+targetOf r change runs p =
+    cond (r .transfer .on || (change && isAutomatic (r .mode) && not (r .settings .mode1 .bumpless) && not runs)) p (setpointOf r)
 
 -- G3: the profile, its setpoint and word 27 after the sample; in Cascade they wait
 unfoldable pub profiledOf : Reading → Profile → ℕ → ℕ → Profiled
@@ -54,19 +63,19 @@ faultAfter r = cond (isCascade (r .mode)) (r .settings .stored .fault) (r .progr
 unfoldable pub errorIn : Settings → ℕ → ℕ → ℤ
 errorIn s target p = errorOf (s .mode1 .squared) (s .mode2 .output .scale) (s .mode1 .deadband) (s .deadband) target p
 
--- A1 to A5 together, from the carried mode, form and profile; and (A11) these after them
+-- A1 to A5 together, from the carried mode, form, profile and mark; and (A11) these after them: in Manual a mark stays
 unfoldable pub sensedOf : Reading → State → ℕ → Sensed
 sensedOf r state raw =
     let s = r .settings in
-    let p = pvOf (s .mode1 .root) (s .mode2 .input .scale) raw in
-    let entry = entering state (r .mode) (s .mode1 .velocity) in
-    let after = profiledOf r (state .profile) (targetOf r entry (runsOn (r .program) (state .profile)) p) p in
+    let p = pvIn r raw in
+    let change = changed state (s .mode1 .velocity) in
+    let after = profiledOf r (state .profile) (targetOf r change (runsOn (r .program) (state .profile)) p) p in
     record {
       pv = p;
-      entry = entry;
+      entry = entering state (r .mode) (s .mode1 .velocity);
       setpoint = after .setpoint;
       error = errorIn s (after .setpoint) p;
       flags = after .flags;
       fault = faultAfter r;
-      state = record { mode = r .mode; velocity = s .mode1 .velocity; profile = after .profile };
+      state = record { mode = r .mode; velocity = s .mode1 .velocity; profile = after .profile; mark = isManual (r .mode) && state .mark };
     }

@@ -11,8 +11,10 @@ use table::is_automatic;
 use table::is_cascade;
 use table::is_manual;
 ghost use mathlib.Core.Path.{_≡_};
+ghost use mathlib.Core.Bool.{_&&_};
 ghost use Prim.Native.Nat.{_≤_, _<_};
-ghost use Rattle.engine.specs.Sensing.{pvOf, setpointOf, entering, runsOn, targetOf, profiledOf, faultAfter, errorIn, sensedOf};
+ghost use Rattle.engine.specs.Sensing.{pvOf, setpointOf, changed, entering, runsOn, targetOf, profiledOf, faultAfter, errorIn, sensedOf};
+ghost use Rattle.table.specs.Modes.{isManual};
 ghost use Rattle.profile.specs.Moves.Laws.{Within};
 
 // The PV, the setpoint and the error; whether the sample is an entry; words 27 and 29; and the loop's state
@@ -51,14 +53,30 @@ fn own_setpoint(reading: Reading) -> u16
     }
 }
 
-// A4: whether the sample is an entry.
-fn enters(state: State, mode: Mode, velocity: bool) -> bool
-    ensures { λ r. ⌜ r ≡ entering state mode velocity ⌝ }
+// A4: whether the loop comes from Manual or changes its form.
+fn changes(state: State, velocity: bool) -> bool
+    ensures { λ r. ⌜ r ≡ changed state velocity ⌝ }
 {
     let former = state.mode;
     let was = is_manual(former);
+    was | (state.velocity != velocity)
+}
+
+// A4: whether the sample is an entry: by such a change, or by the mark of a transfer (A13).
+fn enters(state: State, mode: Mode, velocity: bool) -> bool
+    ensures { λ r. ⌜ r ≡ entering state mode velocity ⌝ }
+{
+    let change = changes(state, velocity);
     let is = is_manual(mode);
-    !is & (was | (state.velocity != velocity))
+    !is & (change | state.mark)
+}
+
+// A11: the mark after the sample: in Manual it stays.
+fn mark_after(mode: Mode, mark: bool) -> bool
+    ensures { λ r. ⌜ r ≡ (isManual mode && mark) ⌝ }
+{
+    let manual = is_manual(mode);
+    manual & mark
 }
 
 // G11: a profile runs, held or not.
@@ -68,13 +86,14 @@ fn runs_on(program: Program, p: Profile) -> bool
     program.on & (p.segment != 0)
 }
 
-// A3 and A4: the setpoint, forced to the PV at an entry to Automatic with Bumpless I, unless a profile runs.
-fn target_of(reading: Reading, entry: bool, runs: bool, pv: u16) -> u16
-    ensures { λ r. ⌜ r ≡ targetOf reading entry runs pv ⌝ }
+// A3, A4 and A13: the setpoint, forced to the PV at a transfer, and at an entry to Automatic with Bumpless I by a
+// change of mode or form, unless a profile runs.
+fn target_of(reading: Reading, change: bool, runs: bool, pv: u16) -> u16
+    ensures { λ r. ⌜ r ≡ targetOf reading change runs pv ⌝ }
 {
     let mode = reading.mode;
     let automatic = is_automatic(mode);
-    if entry & automatic & !reading.settings.mode1.bumpless & !runs {
+    if reading.transfer.on | (change & automatic & !reading.settings.mode1.bumpless & !runs) {
         pv
     } else {
         own_setpoint(reading)
@@ -136,7 +155,7 @@ fn error_in(s: Settings, target: u16, pv: u16) -> i64
     )
 }
 
-// A1 to A5, from the carried mode, form and profile.
+// A1 to A5, from the carried mode, form, profile and mark.
 pub(crate) fn sensed_by(reading: Reading, state: State, raw: u16) -> Sensed
     requires { ⌜ (0 < reading .settings .mode2 .output .scale) × Within (state .profile) × (reading .program .pair .duration ≤ 9999) ⌝ }
     ensures { λ r. ⌜ r ≡ sensedOf reading state raw ⌝ }
@@ -145,15 +164,17 @@ pub(crate) fn sensed_by(reading: Reading, state: State, raw: u16) -> Sensed
     let mode = reading.mode;
     let pv = measured(s.mode1.root, s.mode2.input.scale, raw);
     let entry = enters(state, mode, s.mode1.velocity);
+    let change = changes(state, s.mode1.velocity);
     let program = reading.program;
     let before = state.profile;
-    let target = target_of(reading, entry, runs_on(program, before), pv);
+    let target = target_of(reading, change, runs_on(program, before), pv);
     let after = profiled(reading, before, target, pv);
     let profile = after.profile;
     let setpoint = after.setpoint;
     let flags = after.flags;
     let fault = fault_after(reading);
     let error = error_in(s, setpoint, pv);
+    let mark = mark_after(mode, state.mark);
     Sensed {
         pv,
         entry,
@@ -165,6 +186,7 @@ pub(crate) fn sensed_by(reading: Reading, state: State, raw: u16) -> Sensed
             mode,
             velocity: s.mode1.velocity,
             profile,
+            mark,
         },
     }
 }

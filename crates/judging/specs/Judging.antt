@@ -1,14 +1,16 @@
--- Refusals N7, N8 and N9 of a sample, by what it read. The settings of N8 stand in five groups.
+-- Refusals N7, N8 and N9 of a sample, by what it read, and N11 by its PV too. The settings of N8 stand in five groups.
 use Prim.Native.Nat.{ℕ}
 use mathlib.Core.Path.{_≡_}
 use mathlib.Core.Bool.{Bool, false, not, _&&_, _||_}
 use mathlib.Core.List.{List, [], _∷_}
 use lib.Dec.{ltb, eqb}
 use Rattle.refusals.specs.declared.Refusal.the-variants.{Digit, Setting, Above}
+use Rattle.refusals.specs.declared.Refusal.the-variants.{Transfer as NoTransfer}
 use Rattle.refusals.specs.Refusals.{Case, _⇒_}
 use Rattle.table.specs.declared.settings.Mode1.{Mode1}
 use Rattle.table.specs.declared.settings.Tuning.{Tuning}
 use Rattle.table.specs.declared.settings.OutputLimits.{OutputLimits}
+use Rattle.table.specs.declared.transfer.Transfer.{Transfer}
 use Rattle.table.specs.declared.reading.Reading.{Reading}
 use Rattle.table.specs.Modes.{isCascade}
 pub mod Laws
@@ -47,7 +49,15 @@ readingCases r raw =
     ∷ (ltb scale raw ⇒ Above)
     ∷ []
 
--- O3: none of them holds
+-- N11: a transfer to no major loop, or with p outside that loop's output limits
+abbrev pub badTransfer : Transfer → ℕ → Bool
+badTransfer t p = t .on && (eqb (t .major) 0 || ltb p (t .limits .low) || ltb (t .limits .high) p)
+
+-- O3: N11, behind the others
+abbrev pub transferCases : Transfer → ℕ → List Case
+transferCases t p = (badTransfer t p ⇒ NoTransfer) ∷ []
+
+-- O3: none of readingCases holds
 pub record Passed (r : Reading) (raw : ℕ) : Type 0 where
   pub digit : (r .settings .baddigit || r .program .baddigit) ≡ false
   pub modes : badModes (r .settings .mode1) (r .settings .mode2 .unused) (r .settings .alarms .hysteresis) ≡ false

@@ -1,16 +1,17 @@
-// Whether a sample is accepted, by what it read of the words: N7, N8 and N9.
+// Whether a sample is accepted, by what it read of the words: N7, N8 and N9; and N11, for which the PV has to be known.
 use refusals::Answer;
 use refusals::Refusal;
 use table::Mode1;
 use table::OutputLimits;
 use table::Reading;
+use table::Transfer;
 use table::Tuning;
 use table::WORDS;
 use table::is_cascade;
 ghost use mathlib.Core.Path.{_≡_};
 ghost use lib.Dec.{ltb};
 ghost use Rattle.refusals.specs.Refusals.{firstOf};
-ghost use Rattle.judging.specs.Judging.{badModes, badTimes, badLimits, badSetpoint, readingCases};
+ghost use Rattle.judging.specs.Judging.{badModes, badTimes, badLimits, badSetpoint, readingCases, badTransfer};
 
 const LEAST_PERIOD: u16 = 5; // 0.05 s
 
@@ -87,4 +88,11 @@ pub fn judge(reading: Reading, raw: u64) -> Answer
         return Answer::Refused(Refusal::Above);
     }
     Answer::Accepted
+}
+
+// N11: a transfer without a major loop, or with a PV outside that loop's output limits.
+pub fn bad_transfer(t: Transfer, pv: u16) -> bool
+    ensures { λ r. ⌜ r ≡ badTransfer t pv ⌝ }
+{
+    t.on & ((t.major == 0) | (pv < t.limits.low) | (t.limits.high < pv))
 }

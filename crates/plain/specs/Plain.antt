@@ -1,5 +1,5 @@
 -- The plain loop is the exact loop of E3: the exact output, in fractions, beside the engine. It is fed the reading and the raw PV of each accepted
--- sample of its loop, and no number that the engine carries.
+-- sample of its loop, told of another loop's transfer to it, and fed no number that the engine carries.
 use Prim.Native.Nat.{ℕ, zero, suc, _+_}
 use mathlib.Core.Bool.{Bool, true, false, cond, _||_}
 use lib.IntN.{ℤ, pos, _-ℤ_}
@@ -10,12 +10,13 @@ use Rattle.control.specs.declared.terms.Inputs.{Inputs}
 use Rattle.control.specs.Terms.{exactTerms}
 use Rattle.carried.specs.declared.record.State.{State}
 use Rattle.carried.specs.declared.record.Carried.{Carried}
+use Rattle.carried.specs.Layout.{marked}
 use Rattle.engine.specs.Sensing.{sensedOf}
 use Rattle.engine.specs.Driving.{heldOf}
 use Rattle.plain.specs.Exact.{inCounts, exactOutput, exactBias}
 pub mod Laws
 
--- E3: mode and form (its state), the last PV, the bias B and the number n; and the last exact output (E5)
+-- E3: mode, form, profile and mark (its state), the last PV, the bias B and the number n; and the last exact output (E5)
 pub record Plain : Type 0 where
   pub state : State
   pub last : ℕ
@@ -23,7 +24,7 @@ pub record Plain : Type 0 where
   pub n : ℕ
   pub output : Fraction
 
--- E3: at the start mode and form are those of the loop's record, and n is 0
+-- E3: at the start the state is that of the loop's record, and n is 0
 unfoldable pub begun : Carried → Plain
 begun c = record { state = c .state; last = 0; B = whole (pos 0); n = 0; output = whole (pos 0) }
 
@@ -56,6 +57,10 @@ plainAfter q r raw =
     let x = sensedOf r (q .state) raw in
     let n = countAfter (isManual (r .mode) || s .mode1 .freeze || s .mode1 .velocity) (x .entry) (q .n) in
     movedBy n q r (x .state) (cond (x .entry) (whole (pos (heldOf s))) (q .B)) (cond (x .entry) (x .pv) (q .last)) (x .pv) (x .error)
+
+-- E3, A13: another loop's transfer to it sets the mark, and nothing else
+unfoldable pub plainMarked : Plain → Plain
+plainMarked q = record { state = marked (q .state); last = q .last; B = q .B; n = q .n; output = q .output }
 
 -- E6: 1/2 + (n + 1)/262,144 of a count
 unfoldable pub tolerance : ℕ → Fraction

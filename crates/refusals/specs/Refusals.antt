@@ -1,14 +1,14 @@
--- The refusals with their numbers (N1 to N10), the number of an answer, and the first of several conditions that holds (O4).
+-- The refusals with their numbers (N1 to N11), the number of an answer, and the first of several conditions that holds (O4).
 use Prim.Native.Nat.{ℕ}
 use mathlib.Core.Bool.{Bool, cond}
 use mathlib.Core.List.{List, [], _∷_}
 use Rattle.refusals.specs.declared.Refusal.{Refusal}
-use Rattle.refusals.specs.declared.Refusal.the-variants.{Cut, Kind, Length, Loop, Memory, Record, Store, Digit, Setting, Above, Room}
+use Rattle.refusals.specs.declared.Refusal.the-variants.{Cut, Kind, Length, Loop, Memory, Record, Store, Digit, Setting, Above, Room, Transfer}
 use Rattle.refusals.specs.declared.Answer.{Answer}
 use Rattle.refusals.specs.declared.Answer.the-variants.{Accepted, Refused}
 pub mod Laws
 
--- N1 to N10: the number of each refusal. Wrong lengths and a record out of range are both N5
+-- N1 to N11: the number of each refusal. Wrong lengths and a record out of range are both N5
 abbrev pub numberOfRefusal : Refusal → ℕ
 numberOfRefusal Cut = 1
 numberOfRefusal Kind = 2
@@ -21,6 +21,7 @@ numberOfRefusal Digit = 7
 numberOfRefusal Setting = 8
 numberOfRefusal Above = 9
 numberOfRefusal Room = 10
+numberOfRefusal Transfer = 11
 
 -- Q1 to Q6, Q11, Q12: the number of an answer, 0 where the call is accepted
 abbrev pub numberOf : Answer → ℕ

@@ -1,5 +1,5 @@
 // Why a record of a drill file, or a call, is refused: one list of reasons for reader, engine, desk and setup,
-// with their numbers (N1 to N10).
+// with their numbers (N1 to N11).
 ghost use mathlib.Core.Path.{_≡_};
 ghost use Rattle.refusals.specs.Refusals.{numberOf};
 
@@ -26,6 +26,8 @@ pub const ABOVE: u8 = 9;
 
 pub const ROOM: u8 = 10;
 
+pub const TRANSFER: u8 = 11;
+
 pub enum Refusal {
     Cut, // N1: the file ends inside the record
     Kind, // N2: the record has no kind, or none that is known
@@ -38,6 +40,7 @@ pub enum Refusal {
     Setting, // N8: a setting that is not allowed
     Above, // N9: the raw PV is above full scale
     Room, // N10: the room lent for a setup file is shorter than the file
+    Transfer, // N11: a transfer without a major loop, or outside its output limits
 }
 
 pub enum Answer {
@@ -63,6 +66,7 @@ pub fn number_of(answer: Answer) -> u8
             Refusal::Setting => SETTING,
             Refusal::Above => ABOVE,
             Refusal::Room => ROOM,
+            Refusal::Transfer => TRANSFER,
         },
     }
 }

@@ -8,6 +8,10 @@ use crate::program::read_program;
 use crate::settings::Mode1;
 use crate::settings::Settings;
 use crate::settings::read_settings;
+use crate::transfer::Transfer;
+use crate::transfer::is_transfer;
+use crate::transfer::read_transfer;
+use crate::words::base_of;
 use crate::words::word_at;
 ghost use mathlib.Core.Path.{_≡_};
 ghost use Prim.Native.Nat.{_+_, _≤_};
@@ -16,24 +20,14 @@ ghost use Rattle.table.specs.Words.{baseOf};
 ghost use Rattle.table.specs.Reading.{modeAfter, remoteOf, readingOf};
 
 // The loop's number and settings, the mode after the requests (A2), in Cascade the word that the setpoint
-// pointer names (A3; else 0), and the ramp/soak program (G1).
+// pointer names (A3; else 0), at a transfer what it asks of the major loop (A13), and the ramp/soak program (G1).
 pub struct Reading {
     pub number: u8,
     pub settings: Settings,
     pub mode: Mode,
     pub remote: u16,
+    pub transfer: Transfer,
     pub program: Program,
-}
-
-// W1: the address of the first word of loop k.
-pub fn base_of(k: u8) -> usize
-    ensures { λ r. ⌜ r ≡ baseOf k ⌝ }
-{
-    if k < 1 {
-        0
-    } else {
-        LOOP_WORDS * (k as usize - 1)
-    }
 }
 
 // A2: the lowest request bit that is on names the mode; with all three off the former one goes on.
@@ -73,6 +67,8 @@ pub fn read_loop(words: &[u16], number: u8, former: Mode, segment: u8) -> Readin
     let bits = settings.mode1;
     let mode = mode_after(bits, former);
     let remote = read_remote(words, mode, settings.pointer);
+    let on = is_transfer(former, mode, bits.bumpless);
+    let transfer = read_transfer(words, on, number, settings.pointer);
     let at = words[base + PROFILE_TABLE];
     let program = read_program(words, bits.profile, at, settings.mode2.input.scale, segment);
     Reading {
@@ -80,6 +76,7 @@ pub fn read_loop(words: &[u16], number: u8, former: Mode, segment: u8) -> Readin
         settings,
         mode,
         remote,
+        transfer,
         program,
     }
 }

@@ -1,7 +1,8 @@
-// Single words: BCD digits, and the word at an address.
+// Single words: BCD digits, the word at an address, and where a loop's words begin.
+use crate::offsets::LOOP_WORDS;
 ghost use mathlib.Core.Path.{_≡_};
 ghost use lib.ListN.{getD};
-ghost use Rattle.table.specs.Words.{bcd, badDigit, clearRequests};
+ghost use Rattle.table.specs.Words.{bcd, badDigit, clearRequests, baseOf};
 
 // W3: four BCD digits as a number: the word less what a digit's place has too much, 16 for 10.
 pub(crate) fn decimal(word: u16) -> u16
@@ -15,6 +16,17 @@ pub(crate) fn bad_digit(word: u16) -> bool
     ensures { λ r. ⌜ r ≡ badDigit word ⌝ }
 {
     (9 < word / 4096 % 16) | (9 < word / 256 % 16) | (9 < word / 16 % 16) | (9 < word % 16)
+}
+
+// W1: the address of the first word of loop k.
+pub fn base_of(k: u8) -> usize
+    ensures { λ r. ⌜ r ≡ baseOf k ⌝ }
+{
+    if k < 1 {
+        0
+    } else {
+        LOOP_WORDS * (k as usize - 1)
+    }
 }
 
 // The word at an address; 0 where there is none.

@@ -9,8 +9,8 @@ use mathlib.Core.Logic.{_≢_}
 use lib.Dec.{T}
 use lib.IntN.{ℤ, pos, negℤ}
 use lib.Signed.{ltZ, _≤ℤ_}
-use lib.ListN.{length, getD, set, take, drop, length-take, length-drop}
-use lib.Seq.{sets, sets-eq, length-sets, ext-getD, drop-at, take-at, length-take-le, getD-take, getD-drop, getD-set-other}
+use lib.ListN.{length, getD, set, take, drop, length-take, length-drop, length-set}
+use lib.Seq.{sets, sets-eq, length-sets, ext-getD, drop-at, take-at, length-take-le, getD-take, getD-drop, getD-set-same, getD-set-other, drop-set-add, take-set-lt}
 use Rattle.numbers.specs.Whole.{linear, neg, abs, abs-in}
 use Rattle.numbers.specs.Limits.Laws.{orderℤ}
 use Rattle.numbers.proofs.Machine.{left}
@@ -18,7 +18,7 @@ use Rattle.table.specs.declared.mode.Mode.{Mode}
 use Rattle.table.specs.declared.mode.Mode.the-variants.{Manual, Automatic, Cascade}
 use Rattle.table.specs.Words.Laws.{or-false, none-at}
 use Rattle.carried.specs.declared.record.Carried.{Carried}
-use Rattle.carried.specs.Layout.{Range, ranges, fieldCount, _to_, outsideRow, rangeTests, outOfRange, modeNumber, flag, numbersOf, modeFrom, flagFrom, profileFrom, recordFrom, slotOf, numbersAt}
+use Rattle.carried.specs.Layout.{Range, ranges, fieldCount, _to_, outsideRow, rangeTests, outOfRange, modeNumber, flag, numbersOf, modeFrom, flagFrom, profileFrom, recordFrom, slotOf, numbersAt, markedAt, markedRecord}
 use Rattle.carried.specs.Ranged.{Ranged}
 
 -- ---- a row
@@ -56,6 +56,7 @@ pub record Rows (ns : List ℤ) : Type 0 where
   pub complete : In ns 10 (pos 0) (pos 1)
   pub fraction : In ns 11 (pos 0) (pos 9999)
   pub time : In ns 12 (pos 0) (pos 6000000)
+  pub mark : In ns 13 (pos 0) (pos 1)
 
 -- no number is out of range where each stands in its row, and the reverse
 pub rows-in : (ns : List ℤ) → outOfRange ns ≡ false → Rows ns
@@ -76,6 +77,7 @@ rows-in ns e =
       complete = in-row _ _ (no 10);
       fraction = in-row _ _ (no 11);
       time = in-row _ _ (no 12);
+      mark = in-row _ _ (no 13);
     }
 
 pub in-rows : (ns : List ℤ) → Rows ns → outOfRange ns ≡ false
@@ -96,6 +98,7 @@ in-rows ns r =
       row 10 _ _ (r .complete),
       row 11 _ _ (r .fraction),
       row 12 _ _ (r .time),
+      row 13 _ _ (r .mark),
     )
 
 -- ---- a record is read back from its numbers
@@ -113,7 +116,14 @@ pub read-back : (c : Carried) → recordFrom (numbersOf c) ≡ c
 unfolding numbersOf recordFrom profileFrom
 read-back c =
     let p = c .state .profile in
-    simp (mode-number (c .state .mode) .0, flag-number (c .state .velocity) .0, flag-number (c .sampled) .0, flag-number (p .hold) .0, flag-number (p .complete) .0)
+    simp (
+      mode-number (c .state .mode) .0,
+      flag-number (c .state .velocity) .0,
+      flag-number (c .sampled) .0,
+      flag-number (p .hold) .0,
+      flag-number (p .complete) .0,
+      flag-number (c .state .mark) .0,
+    )
 
 pub numbers-length : (c : Carried) → length (numbersOf c) ≡ fieldCount
 unfolding numbersOf
@@ -164,6 +174,7 @@ in-range c r =
       complete = flag-number (c .state .profile .complete) .1;
       fraction = (omega (arith, linear), omega (arith, linear, r .profile .fraction));
       time = (omega (arith, linear), omega (arith, linear, r .profile .time));
+      mark = flag-number (c .state .mark) .1;
     })
 
 -- ---- a record put into the buffer
@@ -195,3 +206,76 @@ put-other ns l j k size first second other =
         ∙ apart l ns (slotOf j) (slotOf k + i) (pos 0) (λ n q e. other (omega arith))
         ∙ sym (getD-drop (slotOf k) ns i (pos 0))
         ∙ sym (getD-take fieldCount (drop (slotOf k) ns) i (pos 0) few)
+
+-- ---- a mark put into the buffer
+
+-- is number 13 of the loop's record, and no other number of it
+pub mark-same : (ns : List ℤ) (k : ℕ) → numbersAt (markedAt ns k) (slotOf k) ≡ set (numbersAt ns (slotOf k)) 13 (pos 1)
+mark-same ns k = let few : 13 < fieldCount = omega arith in simp (drop-set-add, take-set-lt)
+
+-- and leaves the records of the other loops
+pub mark-other : (ns : List ℤ) (j k : ℕ) → 1 ≤ j → 1 ≤ k → (k ≡ j → ⊥) → numbersAt (markedAt ns j) (slotOf k) ≡ numbersAt ns (slotOf k)
+mark-other ns j k first second other =
+    ext-getD (pos 0) _ _ (simp (length-take, length-drop, length-set)) at
+  where
+    at : (i : ℕ) → i < length (numbersAt (markedAt ns j) (slotOf k)) → getD (numbersAt (markedAt ns j) (slotOf k)) i (pos 0) ≡ getD (numbersAt ns (slotOf k)) i (pos 0)
+    at i p =
+        let few : i < fieldCount = omega (arith, length-take fieldCount (drop (slotOf k) (markedAt ns j))) in
+        getD-take fieldCount (drop (slotOf k) (markedAt ns j)) i (pos 0) few
+        ∙ getD-drop (slotOf k) (markedAt ns j) i (pos 0)
+        ∙ getD-set-other ns (slotOf j + 13) (slotOf k + i) (pos 1) (pos 0) (λ e. other (omega arith))
+        ∙ sym (getD-drop (slotOf k) ns i (pos 0))
+        ∙ sym (getD-take fieldCount (drop (slotOf k) ns) i (pos 0) few)
+
+-- the record of marked numbers is the marked record
+module _ (ns : List ℤ) (size : length ns ≡ fieldCount) where
+  kept : (i : ℕ) → i < 13 → getD (set ns 13 (pos 1)) i (pos 0) ≡ getD ns i (pos 0)
+  kept i h = getD-set-other ns 13 i (pos 1) (pos 0) (λ e. omega arith)
+
+  there : getD (set ns 13 (pos 1)) 13 (pos 0) ≡ pos 1
+  there = getD-set-same ns 13 (pos 1) (pos 0) (omega arith)
+
+  pub mark-record : recordFrom (set ns 13 (pos 1)) ≡ markedRecord (recordFrom ns)
+  unfolding recordFrom profileFrom
+  mark-record =
+      rw (
+        kept 0 (omega arith),
+        kept 1 (omega arith),
+        kept 2 (omega arith),
+        kept 3 (omega arith),
+        kept 4 (omega arith),
+        kept 5 (omega arith),
+        kept 6 (omega arith),
+        kept 7 (omega arith),
+        kept 8 (omega arith),
+        kept 9 (omega arith),
+        kept 10 (omega arith),
+        kept 11 (omega arith),
+        kept 12 (omega arith),
+        there,
+      )
+
+  row : (i : ℕ) {low high : ℤ} → i < 13 → In ns i low high → In (set ns 13 (pos 1)) i low high
+  row i h p = rw (kept i h) p
+
+  -- and is in range where the record was
+  pub mark-range : outOfRange ns ≡ false → outOfRange (set ns 13 (pos 1)) ≡ false
+  mark-range e =
+      let r = rows-in ns e in
+      in-rows (set ns 13 (pos 1))
+      (record {
+        mode = row 0 (omega arith) (r .mode);
+        bias = row 1 (omega arith) (r .bias);
+        output = row 2 (omega arith) (r .output);
+        last = row 3 (omega arith) (r .last);
+        prior = row 4 (omega arith) (r .prior);
+        error = row 5 (omega arith) (r .error);
+        velocity = row 6 (omega arith) (r .velocity);
+        sampled = row 7 (omega arith) (r .sampled);
+        segment = row 8 (omega arith) (r .segment);
+        hold = row 9 (omega arith) (r .hold);
+        complete = row 10 (omega arith) (r .complete);
+        fraction = row 11 (omega arith) (r .fraction);
+        time = row 12 (omega arith) (r .time);
+        mark = rw there (omega (arith, linear), omega (arith, linear));
+      })

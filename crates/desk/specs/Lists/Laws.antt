@@ -7,17 +7,16 @@ use mathlib.Core.List.{List, [], _∷_, _++_}
 use lib.Dec.{eqb}
 use lib.IntN.{pos}
 use lib.ListN.{length, drop, replicate, length-take, length-drop, getD-replicate}
-use lib.Seq.{length-sets, ext-getD, getD-take, getD-drop}
+use lib.Seq.{ext-getD, getD-take, getD-drop}
 use borrow.Author.Tests.{eqb-true, eqb-false}
 use Rattle.refusals.specs.declared.Refusal.the-variants.{Memory}
 use Rattle.refusals.specs.declared.Answer.{Answer}
 use Rattle.refusals.specs.declared.Answer.the-variants.{Accepted, Refused}
 use Rattle.refusals.specs.Refusals.{numberOf}
-use Rattle.carried.specs.Layout.{fieldCount, numberCount, slotOf, outOfRange, numbersAt, numbersOf}
-use Rattle.plain.specs.Plain.{Plain}
-use Rattle.desk.specs.Desk.{Desk, fittingOf, leftBy, resetDesk, resetAnswer, resetLeft, storeAnswer, storeLeft, sampleAnswer, sampleLeft, sampleDone, stepAt}
-use Rattle.desk.specs.Desk.Laws.{sound, fits, reset-numbers, sampled, own-range, other-numbers}
-use Rattle.desk.specs.Lists.{Call, reset, store, sample, answerTo, deskAfter, deskBehind, fed, plainBehind}
+use Rattle.carried.specs.Layout.{fieldCount, numberCount, slotOf, outOfRange, numbersAt}
+use Rattle.desk.specs.Desk.{Desk, fittingOf, leftBy, resetDesk, resetAnswer, resetLeft, storeAnswer, storeLeft, sampleDone, sampleAnswer, sampleLeft}
+use Rattle.desk.specs.Desk.Laws.{sound, fits, reset-numbers, sampled, done-lengths, own-range, other-range}
+use Rattle.desk.specs.Lists.{Call, reset, store, sample, answerTo, deskAfter, deskBehind, Plains, fed, plainsBehind}
 
 -- by an answer with a number above 0
 refused-by : (a : Answer) (after before : Desk) → 0 < numberOf a → leftBy a after before ≡ before
@@ -49,13 +48,13 @@ by-answer P (Refused why) f h = h
 
 -- the numbers keep their length
 pub numbers-kept : (d : Desk) (call : Call) → length (deskAfter d call .numbers) ≡ length (d .numbers)
-unfolding deskAfter resetLeft storeLeft sampleLeft sampleDone resetAnswer
+unfolding deskAfter resetLeft storeLeft sampleLeft resetAnswer
 numbers-kept d reset =
     by-answer (λ (e : Desk). length (e .numbers) ≡ length (d .numbers)) (resetAnswer d)
     (λ e. ap (λ (r : Desk). length (r .numbers)) reset-numbers ∙ sym (sound d (fits d e) .numbers)) refl
 numbers-kept d (store address value) = by-answer (λ (e : Desk). length (e .numbers) ≡ length (d .numbers)) (storeAnswer d address) (λ e. refl) refl
 numbers-kept d (sample k raw) =
-    by-answer (λ (e : Desk). length (e .numbers) ≡ length (d .numbers)) (sampleAnswer d k raw) (λ e. length-sets (d .numbers) (slotOf k) (numbersOf (stepAt d k raw .carried))) refl
+    by-answer (λ (e : Desk). length (e .numbers) ≡ length (d .numbers)) (sampleAnswer d k raw) (λ e. done-lengths d k raw .1) refl
 
 pub numbers-behind : (d : Desk) (calls : List Call) → length (deskBehind d calls .numbers) ≡ length (d .numbers)
 unfolding deskBehind
@@ -82,18 +81,18 @@ module _ (k : ℕ) (above : 1 ≤ k) where
   unfolding outOfRange
   reset-range below = rw (reset-numbers, zeros below)
 
-  sample-range : (d : Desk) (j raw : ℕ) → InRange d → sampleAnswer d j raw ≡ Accepted → InRange (sampleDone d j raw)
-  sample-range d j raw h e = go (eqb j k) refl
+  sample-range : k ≤ 16 → (d : Desk) (j raw : ℕ) → InRange d → sampleAnswer d j raw ≡ Accepted → InRange (sampleDone d j raw)
+  sample-range below d j raw h e = go (eqb j k) refl
     where
       go : (t : Bool) → eqb j k ≡ t → InRange (sampleDone d j raw)
       go true f = let same : j ≡ k = eqb-true j k f in rw (sym same) (own-range d j raw (sampled d j raw e))
-      go false f = rw (other-numbers d j raw (sampled d j raw e) k above (λ z. eqb-false j k f (sym z))) h
+      go false f = other-range d j raw (sampled d j raw e) k above (λ z. eqb-false j k f (sym z)) below h
 
   pub range-kept : k ≤ 16 → (d : Desk) (call : Call) → InRange d → InRange (deskAfter d call)
   unfolding deskAfter resetLeft storeLeft sampleLeft
   range-kept below d reset h = by-answer InRange (resetAnswer d) (λ e. reset-range below) h
   range-kept below d (store address value) h = by-answer InRange (storeAnswer d address) (λ e. h) h
-  range-kept below d (sample j raw) h = by-answer InRange (sampleAnswer d j raw) (sample-range d j raw h) h
+  range-kept below d (sample j raw) h = by-answer InRange (sampleAnswer d j raw) (sample-range below d j raw h) h
 
   pub range-behind : k ≤ 16 → (d : Desk) (calls : List Call) → InRange d → InRange (deskBehind d calls)
   unfolding deskBehind
@@ -107,8 +106,8 @@ unfolding deskBehind
 desk-append d [] ys = refl
 desk-append d (x ∷ xs) ys = desk-append (deskAfter d x) xs ys
 
-pub plain-append : (k : ℕ) (q : Plain) (d : Desk) (xs ys : List Call)
-    → plainBehind k q d (xs ++ ys) ≡ plainBehind k (plainBehind k q d xs) (deskBehind d xs) ys
-unfolding deskBehind plainBehind
-plain-append k q d [] ys = refl
-plain-append k q d (x ∷ xs) ys = plain-append k (fed k q d x) (deskAfter d x) xs ys
+pub plains-append : (qs : Plains) (d : Desk) (xs ys : List Call)
+    → plainsBehind qs d (xs ++ ys) ≡ plainsBehind (plainsBehind qs d xs) (deskBehind d xs) ys
+unfolding deskBehind plainsBehind
+plains-append qs d [] ys = refl
+plains-append qs d (x ∷ xs) ys = plains-append (fed qs d x) (deskAfter d x) xs ys

@@ -20,7 +20,7 @@ use Rattle.carried.specs.declared.record.Carried.{Carried}
 use Rattle.carried.specs.Ranged.{Ranged}
 use Rattle.judging.specs.Judging.{readingCases}
 use Rattle.judging.specs.Judging.Laws.{passed, times-good, limits-good, setpoint-good}
-use Rattle.engine.specs.Sensing.{setpointOf, runsOn, targetOf, errorIn, sensedOf}
+use Rattle.engine.specs.Sensing.{setpointOf, changed, runsOn, targetOf, errorIn, sensedOf}
 use Rattle.engine.specs.Sensing.Laws.{pv-high, target-high, profiled-within, profiled-scale}
 use Rattle.engine.specs.Driving.{heldOf, drivenOf}
 use Rattle.engine.specs.Driving.Laws.{held-high, start-bias, start-output, Remembered, past-high, moved-output, moved-bias}
@@ -72,7 +72,8 @@ drivable {r} {c} {raw} u g =
     let own : setpointOf r ≤ scale = omega (arith, same, u .setpoint) in
     let runs = runsOn (r .program) (c .state .profile) in
     let end : r .program .pair .end ≤ scale = omega (arith, same, u .program .end) in
-    let target = profiled-scale r (g .profile) (targetOf r (x .entry) runs (x .pv)) (x .pv) (target-high r (x .entry) runs pv own) end in
+    let change = changed (c .state) (s .mode1 .velocity) in
+    let target = profiled-scale r (g .profile) (targetOf r change runs (x .pv)) (x .pv) (target-high r change runs pv own) end in
     let error = error-high (s .mode1 .squared) (s .mode1 .deadband) (s .deadband) (u .some) target pv in
     let held : heldOf s ≤ 65535 = omega (arith, held-high s (u .limits), u .high, u .scale) in
     let kept : Remembered (c .past) = record { last = g .last; prior = g .prior; error = g .error } in

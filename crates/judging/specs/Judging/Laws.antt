@@ -1,18 +1,19 @@
 -- What an accepted sample's reading is known to be, each group by its name.
 use Prim.Native.Nat.{ℕ, _≤_, _<_}
 use native.Mathlib.Omega.{arith}
-use mathlib.Core.Path.{_≡_}
-use mathlib.Core.Bool.{Bool, true, false, cond}
+use mathlib.Core.Path.{_≡_, refl}
+use mathlib.Core.Bool.{Bool, true, false, cond, _||_}
 use lib.Dec.{ltb, eqb}
-use borrow.Author.Tests.{ltb-false, eqb-false}
+use borrow.Author.Tests.{ltb-false, eqb-false, le-ltb, ne-eqb}
 use Rattle.refusals.specs.declared.Answer.the-variants.{Accepted}
 use Rattle.refusals.specs.Refusals.{firstOf}
 use Rattle.refusals.specs.Refusals.Laws.{accepted-at}
 use Rattle.table.specs.declared.settings.Tuning.{Tuning}
 use Rattle.table.specs.declared.settings.OutputLimits.{OutputLimits}
+use Rattle.table.specs.declared.transfer.Transfer.{Transfer}
 use Rattle.table.specs.declared.reading.Reading.{Reading}
 use Rattle.table.specs.Words.Laws.{or-false}
-use Rattle.judging.specs.Judging.{badTimes, badLimits, badSetpoint, readingCases, Passed}
+use Rattle.judging.specs.Judging.{badTimes, badLimits, badSetpoint, readingCases, badTransfer, Passed}
 
 pub passed : (r : Reading) (raw : ℕ) → firstOf (readingCases r raw) ≡ Accepted → Passed r raw
 passed r raw e =
@@ -41,3 +42,24 @@ pub setpoint-good : (cascade : Bool) (scale setpoint pointer remote : ℕ) → b
     → cond cascade remote setpoint ≤ scale
 setpoint-good true scale setpoint pointer remote e = ltb-false _ _ (or-false (ltb 1023 pointer) (ltb scale remote) e .1)
 setpoint-good false scale setpoint pointer remote e = ltb-false _ _ (or-false (ltb scale setpoint) false e .0)
+
+-- a transfer has a major loop, and p is inside its limits
+pub record Transferred (t : Transfer) (p : ℕ) : Type 0 where
+  pub major : t .major ≡ 0 → ⊥
+  pub low : t .limits .low ≤ p
+  pub high : p ≤ t .limits .high
+
+pub transfer-good : (t : Transfer) (p : ℕ) → badTransfer t p ≡ false → t .on ≡ true → Transferred t p
+transfer-good t p e on =
+    let some : (eqb (t .major) 0 || ltb p (t .limits .low) || ltb (t .limits .high) p) ≡ false = rw on at e in
+    let h = or-false (eqb (t .major) 0 || ltb p (t .limits .low)) (ltb (t .limits .high) p) some in
+    let l = or-false (eqb (t .major) 0) (ltb p (t .limits .low)) (h .0) in
+    record { major = eqb-false _ _ (l .0); low = ltb-false _ _ (l .1); high = ltb-false _ _ (h .1) }
+
+-- and one that has is not refused; nor is a sample that is none
+pub good-transfer : (t : Transfer) (p : ℕ) → (t .on ≡ true → Transferred t p) → badTransfer t p ≡ false
+good-transfer t p h = go (t .on) refl
+  where
+    go : (b : Bool) → t .on ≡ b → badTransfer t p ≡ false
+    go true e = let g = h e in rw (ne-eqb (t .major) 0 (g .major), le-ltb p (t .limits .low) (g .low), le-ltb (t .limits .high) p (g .high), e)
+    go false e = rw e

@@ -1,7 +1,7 @@
 -- The invariant that ties a loop's carried record to its plain loop, and that an accepted sample keeps it and is accurate.
 use Prim.Native.Nat.{ℕ, zero, suc, _+_, _≤_, _<_}
 use native.Mathlib.Omega.{arith}
-use mathlib.Core.Path.{_≡_, refl, subst}
+use mathlib.Core.Path.{_≡_, refl, ap, subst}
 use mathlib.Core.Bool.{Bool, true, false, cond, not, _||_, or-true}
 use lib.Dec.{lit<}
 use lib.IntN.{ℤ, pos, natAbs}
@@ -18,6 +18,7 @@ use Rattle.control.specs.Forms.{positionOf}
 use Rattle.carried.specs.declared.record.State.{State}
 use Rattle.carried.specs.declared.record.Past.{Past}
 use Rattle.carried.specs.declared.record.Carried.{Carried}
+use Rattle.carried.specs.Layout.{marked, markedRecord}
 use Rattle.carried.specs.Ranged.{Ranged}
 use Rattle.engine.specs.declared.sensing.Sensed.{Sensed}
 use Rattle.engine.specs.Sensing.{sensedOf}
@@ -30,7 +31,7 @@ use Rattle.engine.specs.Premises.{Usable}
 use Rattle.engine.proofs.Limits.{Between, word-inside}
 use Rattle.plain.specs.Exact.{inCounts, exactOutput, exactBias}
 use Rattle.plain.specs.Exact.Laws.{position-near}
-use Rattle.plain.specs.Plain.{Plain, begun, countAfter, inputsOf, movedBy, plainAfter, tolerance}
+use Rattle.plain.specs.Plain.{Plain, begun, countAfter, inputsOf, movedBy, plainAfter, plainMarked, tolerance}
 
 -- the states are one; and where n is above 0, a sample was accepted, the last PVs agree, and the bias is within n units of the exact one
 pub record Tied (c : Carried) (q : Plain) : Type 0 where
@@ -48,6 +49,11 @@ start-tied c = record {
   last = λ h. absurd (omega arith);
   bias = λ h. absurd (omega arith);
 }
+
+-- and it stays where both are marked
+pub mark-tied : {c : Carried} {q : Plain} → Tied c q → Tied (markedRecord c) (plainMarked q)
+unfolding plainMarked
+mark-tied {c} {q} t = record { state = ap marked (t .state); sampled = t .sampled; last = t .last; bias = t .bias }
 
 -- the claim of one accepted sample: the output word, the limits read, and the plain loop after it
 pub record Good (word low high : ℕ) (q : Plain) : Type 0 where

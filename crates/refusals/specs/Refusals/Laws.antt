@@ -5,15 +5,15 @@ use mathlib.Core.Path.{_≡_, refl, sym}
 use mathlib.Core.Bool.{Bool, true, false, cond}
 use mathlib.Core.List.{List, [], _∷_, _++_}
 use Rattle.refusals.specs.declared.Refusal.{Refusal}
-use Rattle.refusals.specs.declared.Refusal.the-variants.{Cut, Kind, Length, Loop, Memory, Record, Store, Digit, Setting, Above, Room}
+use Rattle.refusals.specs.declared.Refusal.the-variants.{Cut, Kind, Length, Loop, Memory, Record, Store, Digit, Setting, Above, Room, Transfer}
 use Rattle.refusals.specs.declared.Answer.{Answer}
 use Rattle.refusals.specs.declared.Answer.the-variants.{Accepted, Refused}
 use Rattle.refusals.specs.Refusals.{numberOfRefusal, numberOf, Case, firstOf}
 
 -- ---- numbers
 
--- every refusal has a number from 1 to 10
-pub in-table : (why : Refusal) → (0 < numberOfRefusal why) × (numberOfRefusal why ≤ 10)
+-- every refusal has a number from 1 to 11
+pub in-table : (why : Refusal) → (0 < numberOfRefusal why) × (numberOfRefusal why ≤ 11)
 in-table Cut = omega arith
 in-table Kind = omega arith
 in-table Length = omega arith
@@ -25,6 +25,7 @@ in-table Digit = omega arith
 in-table Setting = omega arith
 in-table Above = omega arith
 in-table Room = omega arith
+in-table Transfer = omega arith
 
 -- an answer of 0 is an acceptance
 pub accepted-only : (a : Answer) → numberOf a ≡ 0 → a ≡ Accepted
@@ -75,16 +76,16 @@ pub accepted-first : (l m : List Case) → firstOf l ≡ Accepted → firstOf (l
 accepted-first [] m e = refl
 accepted-first (x ∷ l) m e = let p = passed (x .holds) (x .why) (firstOf l) e in rw (p .0) (accepted-first l m (p .1))
 
--- the refusals of a list have numbers up to m
-abbrev pub UpTo : ℕ → List Case → Type 0
-UpTo m [] = Unit {0}
-UpTo m (x ∷ l) = (numberOfRefusal (x .why) ≤ m) × UpTo m l
+-- the numbers of a list's refusals are all of a kind
+abbrev pub Each : (ℕ → Type 0) → List Case → Type 0
+Each P [] = Unit {0}
+Each P (x ∷ l) = P (numberOfRefusal (x .why)) × Each P l
 
--- and so has its answer
-pub first-up-to : (m : ℕ) (l : List Case) → UpTo m l → numberOf (firstOf l) ≤ m
-first-up-to m [] h = omega arith
-first-up-to m (x ∷ l) h = go (x .holds) (first-up-to m l (h .1))
+-- and so is that of its answer, if 0 is
+pub first-of-kind : (P : ℕ → Type 0) → P 0 → (l : List Case) → Each P l → P (numberOf (firstOf l))
+first-of-kind P none [] h = none
+first-of-kind P none (x ∷ l) h = go (x .holds) (first-of-kind P none l (h .1))
   where
-    go : (b : Bool) → numberOf (firstOf l) ≤ m → numberOf (cond b (Refused (x .why)) (firstOf l)) ≤ m
+    go : (b : Bool) → P (numberOf (firstOf l)) → P (numberOf (cond b (Refused (x .why)) (firstOf l)))
     go true rest = h .0
     go false rest = rest

@@ -12,6 +12,8 @@ use Rattle.table.specs.Words.Laws.{block-at, scale-low, scale-high}
 use Rattle.table.specs.Modes.{isCascade}
 use Rattle.table.specs.Settings.{mode2Of, settingsOf}
 use Rattle.table.specs.Settings.Laws.{Decimals, tuning-high}
+use Rattle.table.specs.Transfers.{majorOf, limitsAt, transferOf}
+use Rattle.table.specs.Transfers.Laws.{Major, transfer-local, major-low, transfer-is, only-cascade}
 use Rattle.table.specs.Programs.Laws.{Fair, good-address, program-on, program-local, program-fair}
 use Rattle.table.specs.Reading.{remoteOf, tableOf, readingOf}
 
@@ -23,23 +25,25 @@ chosen false h = refl
 
 -- the same reading under another loop's number
 abbrev pub numbered : ℕ → Reading → Reading
-numbered k r = record { number = k; settings = r .settings; mode = r .mode; remote = r .remote; program = r .program }
+numbered k r = record { number = k; settings = r .settings; mode = r .mode; remote = r .remote; transfer = r .transfer; program = r .program }
 
 -- word 28 is one of the loop's block
 pub table-word : (ws : List ℕ) (k : ℕ) → getD (blockAt ws (baseOf k)) 28 0 ≡ tableOf ws k
 table-word ws k = block-at ws (baseOf k) 28 (lit< tt)
 
--- the loop's block, in Cascade the word pointed to, and the ramp/soak table where there is a program: two loops of any two tables that agree on these
--- are read alike
+-- the loop's block, in Cascade the word pointed to, at a transfer which loop is the major one with its limits, and the ramp/soak table where there is
+-- a program: two loops of any two tables that agree on these are read alike
 pub reading-local : (ws ws′ : List ℕ) (k k′ : ℕ) (former : Mode) (segment : ℕ) → blockAt ws (baseOf k) ≡ blockAt ws′ (baseOf k′)
     → (isCascade (readingOf ws k former segment .mode) ≡ true
     → getD ws (readingOf ws k former segment .settings .pointer) 0 ≡ getD ws′ (readingOf ws k former segment .settings .pointer) 0)
+    → (readingOf ws k former segment .transfer .on ≡ true → let pointer = readingOf ws k former segment .settings .pointer in
+    (majorOf k pointer ≡ majorOf k′ pointer) × (limitsAt ws (majorOf k pointer) ≡ limitsAt ws′ (majorOf k pointer)))
     → (readingOf ws k former segment .program .on ≡ true → blockAt ws (tableOf ws k) ≡ blockAt ws′ (tableOf ws k))
     → readingOf ws k former segment ≡ numbered k (readingOf ws′ k′ former segment)
-unfolding readingOf remoteOf
-reading-local ws ws′ k k′ former segment block pointed table =
+unfolding readingOf remoteOf transferOf
+reading-local ws ws′ k k′ former segment block pointed major table =
     let same : tableOf ws′ k′ ≡ tableOf ws k = sym (table-word ws′ k′) ∙ ap (λ (w : List ℕ). getD w 28 0) (sym block) ∙ table-word ws k in
-    rw (← block, same) (rw (chosen _ pointed, program-local ws _ _ segment ws′ _ table) refl)
+    rw (← block, same) (rw (chosen _ pointed, transfer-local ws ws′ _ k k′ _ major, program-local ws _ _ segment ws′ _ table) refl)
 
 -- ---- what is known of every reading
 
@@ -83,3 +87,21 @@ module _ (ws : List ℕ) (k : ℕ) (former : Mode) (segment : ℕ) where
       → Fair (readingOf ws k former segment .program) (readingOf ws k former segment .settings .mode2 .input .scale)
   unfolding readingOf
   fair h d e = program-fair ws _ _ segment _ h d e
+
+  -- a major loop is one of the sixteen
+  pub major-sixteen : readingOf ws k former segment .transfer .major ≤ 16
+  unfolding readingOf
+  major-sixteen = major-low ws _ k _
+
+  -- and at a transfer it is not the loop itself: the pointer is the address of its output word, and words 24 and 25 are its limits
+  pub transferred : readingOf ws k former segment .transfer .on ≡ true → (readingOf ws k former segment .transfer .major ≡ 0 → ⊥)
+      → let r = readingOf ws k former segment in
+      Major k (r .settings .pointer) (r .transfer .major)
+      × (r .transfer .limits .low ≡ getD ws (baseOf (r .transfer .major) + 24) 0) × (r .transfer .limits .high ≡ getD ws (baseOf (r .transfer .major) + 25) 0)
+  unfolding readingOf
+  transferred on some = transfer-is ws _ k _ on some
+
+  -- outside Cascade there is no transfer
+  pub no-transfer : isCascade (readingOf ws k former segment .mode) ≡ false → readingOf ws k former segment .transfer .on ≡ false
+  unfolding readingOf transferOf
+  no-transfer e = only-cascade former _ _ e

@@ -2,11 +2,11 @@
 use Prim.Native.Nat.{ℕ, zero, suc, _+_, _*_, _/_, _%_, _^_, _≤_, _<_}
 use native.Mathlib.Omega.{arith}
 use native.Mathlib.Nat.{add-sub-of-le}
-use mathlib.Core.Path.{_≡_, refl}
+use mathlib.Core.Path.{_≡_, refl, sym, _∙_}
 use mathlib.Core.Bool.{Bool, true, false, cond, _&&_, _||_}
 use mathlib.Core.List.{List, [], _∷_}
-use lib.ListN.{length, getD, length-take, length-drop}
-use lib.Seq.{getD-take, getD-drop}
+use lib.ListN.{length, getD, set, drop, length-take, length-drop, length-set}
+use lib.Seq.{ext-getD, getD-take, getD-drop, getD-set-other}
 use lib.Pow.{shl-shr, shr-shr}
 use lib.Dec.{ltb}
 use borrow.Author.Tests.{ltb-false}
@@ -80,3 +80,13 @@ block-at words base i h = rw (getD-take, getD-drop)
 -- a block has 32 words
 pub block-length : (words : List ℕ) (base : ℕ) → base + 32 ≤ length words → length (blockAt words base) ≡ 32
 block-length words base h = simp (length-take, length-drop) (omega arith)
+
+-- a word stored outside a block leaves it
+pub block-apart : (ws : List ℕ) (base i v : ℕ) → ((n : ℕ) → n < 32 → base + n ≡ i → ⊥) → blockAt (set ws i v) base ≡ blockAt ws base
+block-apart ws base i v other =
+    ext-getD 0 _ _ (simp (length-take, length-drop, length-set)) at
+  where
+    at : (n : ℕ) → n < length (blockAt (set ws i v) base) → getD (blockAt (set ws i v) base) n 0 ≡ getD (blockAt ws base) n 0
+    at n h =
+        let few : n < 32 = omega (arith, length-take 32 (drop base (set ws i v))) in
+        block-at (set ws i v) base n few ∙ getD-set-other ws i (base + n) v 0 (other n few) ∙ sym (block-at ws base n few)

@@ -41,6 +41,9 @@ cast-t16 c = search needs
 cast-t17 : tie.Need-cast-t17
 cast-t17 c = search needs
 
+flag-number-requires-5 : tie.Need-flag-number-requires-5
+flag-number-requires-5 c κs = search needs
+
 -- the numbers of the record fit 64 bits
 module _ (c : tie.Start) where
   abbrev a : Carried
@@ -58,7 +61,7 @@ module _ (c : tie.Start) where
 returns : tie.Need-returns
 unfolding numbersOf
 returns c =
-    let f = c .before .before in
+    let f = c .before .before .before in
     let e = f .before in
     let s = e .before .before in
     let v = s .before in
@@ -72,6 +75,7 @@ returns c =
       got (s .flag-number2 .result) (s .flag-number2 .ok),
       got (e .flag-number3 .result) (e .flag-number3 .ok),
       got (f .flag-number4 .result) (f .flag-number4 .ok),
+      got (c .flag-number5 .result) (c .flag-number5 .ok),
       h .0,
       h .1,
       h .2,
@@ -81,7 +85,7 @@ returns c =
       p .1,
       p .2,
     )
-    (simp (m .mode-number .ensures, v .flag-number .ensures, s .flag-number2 .ensures, e .flag-number3 .ensures, f .flag-number4 .ensures))
+    (simp (m .mode-number .ensures, v .flag-number .ensures, s .flag-number2 .ensures, e .flag-number3 .ensures, f .flag-number4 .ensures, c .flag-number5 .ensures))
 
 pub numbers-of-spec : {M : Type 1} → statement M
 numbers-of-spec =
@@ -97,4 +101,5 @@ numbers-of-spec =
     flag-number-requires-4
     cast-t16
     cast-t17
+    flag-number-requires-5
     returns)

@@ -1,9 +1,11 @@
 -- `carried::out_of_range` meets its contract: each row's test is that of the number read back.
-use lib.IntN.{pos}
+use Prim.Native.Nat.{_*_, _^_}
+use mathlib.Core.Path.{ap, _∙_}
+use lib.IntN.{pos, negℤ}
 use lib.ListN.{getD}
 use mir.Syntax.{w64}
 use mir.Facts.{toZ-ofZ}
-use Rattle.carried.specs.Layout.{outOfRange}
+use Rattle.carried.specs.Layout.{_to_, outsideRow, outOfRange}
 use borrow.Author.Needs.{needs}
 use Rattle.carried.proofs.layout.out_of_range.Statement.{statement}
 use Rattle.carried.proofs.layout.out_of_range.Tie as tie
@@ -86,10 +88,17 @@ array-copy-out-outside-13 c = search needs
 outside-requires-13 : tie.Need-outside-requires-13
 outside-requires-13 c κs = search needs
 
+array-copy-out-outside-14 : tie.Need-array-copy-out-outside-14
+array-copy-out-outside-14 c = search needs
+
+outside-requires-14 : tie.Need-outside-requires-14
+outside-requires-14 c κs = search needs
+
 returns : tie.Need-returns
 unfolding outOfRange
 returns c =
-    let c12 = c .before .before in
+    let c13 = c .before .before in
+    let c12 = c13 .before .before in
     let c11 = c12 .before .before in
     let c10 = c11 .before .before in
     let c9 = c10 .before .before in
@@ -102,22 +111,22 @@ returns c =
     let c2 = c3 .before .before in
     let c1 = c2 .before .before in
     let l = c1 .before .before .args .t1 in
-    simp (c1 .outside .ensures, c2 .outside2 .ensures, c3 .outside3 .ensures, c4 .outside4 .ensures, c5 .outside5 .ensures, c6 .outside6 .ensures, c7 .outside7 .ensures, c8 .outside8 .ensures, c9 .outside9 .ensures, c10 .outside10 .ensures, c11 .outside11 .ensures, c12 .outside12 .ensures, c .outside13 .ensures)
-    (simp (
-      toZ-ofZ {w = w64} {z = getD l 0 (pos 0)} (search needs),
-      toZ-ofZ {w = w64} {z = getD l 1 (pos 0)} (search needs),
-      toZ-ofZ {w = w64} {z = getD l 2 (pos 0)} (search needs),
-      toZ-ofZ {w = w64} {z = getD l 3 (pos 0)} (search needs),
-      toZ-ofZ {w = w64} {z = getD l 4 (pos 0)} (search needs),
-      toZ-ofZ {w = w64} {z = getD l 5 (pos 0)} (search needs),
-      toZ-ofZ {w = w64} {z = getD l 6 (pos 0)} (search needs),
-      toZ-ofZ {w = w64} {z = getD l 7 (pos 0)} (search needs),
-      toZ-ofZ {w = w64} {z = getD l 8 (pos 0)} (search needs),
-      toZ-ofZ {w = w64} {z = getD l 9 (pos 0)} (search needs),
-      toZ-ofZ {w = w64} {z = getD l 10 (pos 0)} (search needs),
-      toZ-ofZ {w = w64} {z = getD l 11 (pos 0)} (search needs),
-      toZ-ofZ {w = w64} {z = getD l 12 (pos 0)} (search needs),
-    ))
+    simp (
+      c1 .outside .ensures ∙ ap (outsideRow (pos 0 to pos 2)) (toZ-ofZ {w = w64} {z = getD l 0 (pos 0)} (search needs)),
+      c2 .outside2 .ensures ∙ ap (outsideRow (negℤ (pos (2 ^ 52)) to pos (2 ^ 52))) (toZ-ofZ {w = w64} {z = getD l 1 (pos 0)} (search needs)),
+      c3 .outside3 .ensures ∙ ap (outsideRow (pos 0 to pos (65535 * 262144))) (toZ-ofZ {w = w64} {z = getD l 2 (pos 0)} (search needs)),
+      c4 .outside4 .ensures ∙ ap (outsideRow (pos 0 to pos 65535)) (toZ-ofZ {w = w64} {z = getD l 3 (pos 0)} (search needs)),
+      c5 .outside5 .ensures ∙ ap (outsideRow (pos 0 to pos 65535)) (toZ-ofZ {w = w64} {z = getD l 4 (pos 0)} (search needs)),
+      c6 .outside6 .ensures ∙ ap (outsideRow (negℤ (pos 65535) to pos 65535)) (toZ-ofZ {w = w64} {z = getD l 5 (pos 0)} (search needs)),
+      c7 .outside7 .ensures ∙ ap (outsideRow (pos 0 to pos 1)) (toZ-ofZ {w = w64} {z = getD l 6 (pos 0)} (search needs)),
+      c8 .outside8 .ensures ∙ ap (outsideRow (pos 0 to pos 1)) (toZ-ofZ {w = w64} {z = getD l 7 (pos 0)} (search needs)),
+      c9 .outside9 .ensures ∙ ap (outsideRow (pos 0 to pos 16)) (toZ-ofZ {w = w64} {z = getD l 8 (pos 0)} (search needs)),
+      c10 .outside10 .ensures ∙ ap (outsideRow (pos 0 to pos 1)) (toZ-ofZ {w = w64} {z = getD l 9 (pos 0)} (search needs)),
+      c11 .outside11 .ensures ∙ ap (outsideRow (pos 0 to pos 1)) (toZ-ofZ {w = w64} {z = getD l 10 (pos 0)} (search needs)),
+      c12 .outside12 .ensures ∙ ap (outsideRow (pos 0 to pos 9999)) (toZ-ofZ {w = w64} {z = getD l 11 (pos 0)} (search needs)),
+      c13 .outside13 .ensures ∙ ap (outsideRow (pos 0 to pos 6000000)) (toZ-ofZ {w = w64} {z = getD l 12 (pos 0)} (search needs)),
+      c .outside14 .ensures ∙ ap (outsideRow (pos 0 to pos 1)) (toZ-ofZ {w = w64} {z = getD l 13 (pos 0)} (search needs)),
+    )
 
 pub out-of-range-spec : {M : Type 1} → statement M
 out-of-range-spec =
@@ -149,4 +158,6 @@ out-of-range-spec =
     outside-requires-12
     array-copy-out-outside-13
     outside-requires-13
+    array-copy-out-outside-14
+    outside-requires-14
     returns)

@@ -45,11 +45,11 @@ profile-of-requires c κs = search needs
 array-copy-out-t9 : tie.Need-array-copy-out-t9
 array-copy-out-t9 c = search needs
 
-array-copy-out-t21 : tie.Need-array-copy-out-t21
-array-copy-out-t21 c = search needs
+array-copy-out-t20 : tie.Need-array-copy-out-t20
+array-copy-out-t20 c = search needs
 
-array-copy-out-t24 : tie.Need-array-copy-out-t24
-array-copy-out-t24 c = search needs
+array-copy-out-t25 : tie.Need-array-copy-out-t25
+array-copy-out-t25 c = search needs
 
 array-copy-out-t28 : tie.Need-array-copy-out-t28
 array-copy-out-t28 c = search needs
@@ -57,9 +57,13 @@ array-copy-out-t28 c = search needs
 array-copy-out-t32 : tie.Need-array-copy-out-t32
 array-copy-out-t32 c = search needs
 
-held : (c : tie.After-t32) → let l = c .before .before .before .before .before .before .before .before .before .before .before .before .args .t1 in
-    Same l 0 × Same l 1 × Same l 2 × Same l 3 × Same l 4 × Same l 5 × Same l 6 × Same l 7
+array-copy-out-t36 : tie.Need-array-copy-out-t36
+array-copy-out-t36 c = search needs
+
+held : (c : tie.After-t36) → let l = c .before .before .before .before .before .before .before .before .before .before .before .before .before .args .t1 in
+    Same l 0 × Same l 1 × Same l 2 × Same l 3 × Same l 4 × Same l 5 × Same l 6 × Same l 7 × Same l 13
 held c = (
+  toZ-ofZ (search needs),
   toZ-ofZ (search needs),
   toZ-ofZ (search needs),
   toZ-ofZ (search needs),
@@ -73,7 +77,7 @@ held c = (
 returns : tie.Need-returns
 unfolding recordFrom
 returns c =
-    let f = c .before .before .before .before .before in
+    let f = c .before .before .before .before .before .before in
     let p = f .before in
     let l = p .before .before in
     let m = l .before .before in
@@ -88,6 +92,7 @@ returns c =
       h .5,
       h .6,
       h .7,
+      h .8,
     )
 
 pub record-of-spec : {M : Type 1} → statement M
@@ -102,8 +107,9 @@ record-of-spec =
     word-of-requires-2
     profile-of-requires
     array-copy-out-t9
-    array-copy-out-t21
-    array-copy-out-t24
+    array-copy-out-t20
+    array-copy-out-t25
     array-copy-out-t28
     array-copy-out-t32
+    array-copy-out-t36
     returns)

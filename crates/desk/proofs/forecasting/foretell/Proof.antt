@@ -2,13 +2,18 @@
 use native.Mathlib.Omega.{arith}
 use mathlib.Core.Path.{_≡_, sym, ap, _∙_}
 use denote.Ref.{now}
+use Rattle.refusals.specs.declared.Refusal.the-variants.{Transfer as NoTransfer}
 use Rattle.refusals.specs.declared.Answer.{Answer}
+use Rattle.refusals.specs.declared.Answer.the-variants.{Accepted, Refused}
 use Rattle.refusals.specs.Refusals.{firstOf}
 use Rattle.table.specs.declared.reading.Reading.{Reading}
 use Rattle.table.specs.Reading.Laws.{table-inside}
-use Rattle.judging.specs.Judging.{readingCases}
+use Rattle.judging.specs.Judging.{readingCases, badTransfer}
+use Rattle.engine.specs.Sensing.{pvIn}
+use Rattle.engine.specs.Sensing.Laws.{pv-zero}
 use Rattle.engine.specs.Steps.Laws.{usable}
-use Rattle.desk.specs.Desk.{readingBy, remainingOf, countedBy, foretoldOf}
+use Rattle.desk.specs.Desk.{readingBy, judgedCases, remainingOf, countedBy, foretoldOf}
+use Rattle.desk.specs.Desk.Laws.{judged-refused, judged-past}
 use borrow.Author.Needs.{needs}
 use Rattle.desk.proofs.forecasting.foretell.Statement.{statement}
 use Rattle.desk.proofs.forecasting.foretell.Tie as tie
@@ -34,31 +39,59 @@ module _ (c : tie.After-judge) where
   unfolding start
   judged = c .judge .ensures ∙ ap (λ (r : Reading). firstOf (readingCases r 0)) (c .before .read-loop .ensures)
 
-remaining-requires : tie.Need-remaining-requires
-unfolding start
-remaining-requires c κs =
-    let j = c .before .before in
-    let s = start j in
-    let a = s .args in
-    let q = a .carried .state in
-    let few = s .pre .2 .profile .segment in
-    let u = usable (now (a .words)) (a .number) (q .mode) (q .profile .segment) 0 few (sym (judged j) ∙ c .enum-told .given .1) in
-    rw (j .before .read-loop .ensures)
-    (λ on. (let inside = table-inside (now (a .words)) (a .number) (q .mode) (q .profile .segment) on in omega (arith, s .pre .0)), few, omega (arith, u .tuned .sampling))
+bad-transfer-requires : tie.Need-bad-transfer-requires
+bad-transfer-requires c κs = search needs
+
+-- past N7 to N9 it is N11 with p = 0 that decides
+module _ (c : tie.After-bad-transfer) where
+  abbrev reading : Reading
+  reading = let a = start (c .before .before .before) .args in readingBy (now (a .words)) (a .number) (a .carried)
+
+  passed : firstOf (readingCases reading 0) ≡ Accepted
+  unfolding start
+  passed = sym (judged (c .before .before .before)) ∙ c .before .enum-told .given .1
+
+  tested : badTransfer (reading .transfer) (pvIn reading 0) ≡ c .bad-transfer .result
+  unfolding start
+  tested =
+      ap (badTransfer (reading .transfer)) (pv-zero (reading .settings .mode1 .root) (reading .settings .mode2 .input .scale))
+      ∙ sym (c .bad-transfer .ensures ∙ ap (λ (r : Reading). badTransfer (r .transfer) 0) (c .before .before .before .before .read-loop .ensures))
 
 returns : tie.Need-returns
 unfolding foretoldOf start
 returns c =
-    let j = c .before .before .before in
-    let a = start j .args in
-    sym (ap (λ (x : Answer). countedBy x (remainingOf (now (a .words)) (a .number) (a .carried))) (sym (judged j) ∙ c .before .answer .given .1))
+    let b = c .before in
+    let e : firstOf (judgedCases (reading b) 0) ≡ Refused NoTransfer = judged-past (reading b) 0 (passed b) ∙ rw (tested b ∙ c .if1 .taken) in
+    let a = start (b .before .before .before) .args in
+    sym (ap (λ (x : Answer). countedBy x (remainingOf (now (a .words)) (a .number) (a .carried))) e)
+
+remaining-requires : tie.Need-remaining-requires
+unfolding start
+remaining-requires c κs =
+    let b = c .before in
+    let j = b .before .before .before in
+    let s = start j in
+    let a = s .args in
+    let q = a .carried .state in
+    let few = s .pre .2 .profile .segment in
+    let u = usable (now (a .words)) (a .number) (q .mode) (q .profile .segment) 0 few (passed b) in
+    rw (j .before .read-loop .ensures)
+    (λ on. (let inside = table-inside (now (a .words)) (a .number) (q .mode) (q .profile .segment) on in omega (arith, s .pre .0)), few, omega (arith, u .tuned .sampling))
 
 returns-2 : tie.Need-returns-2
-unfolding foretoldOf remainingOf start
+unfolding foretoldOf start
 returns-2 c =
-    let t = c .before in
-    let j = t .before .before in
-    rw (sym (judged j) ∙ t .enum-told .given .1, c .remaining .ensures, j .before .read-loop .ensures)
+    let j = c .before .before .before in
+    let a = start j .args in
+    let r = readingBy (now (a .words)) (a .number) (a .carried) in
+    sym (ap (λ (x : Answer). countedBy x (remainingOf (now (a .words)) (a .number) (a .carried))) (judged-refused r 0 (sym (judged j) ∙ c .before .answer .given .1)))
+
+returns-3 : tie.Need-returns-3
+unfolding foretoldOf remainingOf start
+returns-3 c =
+    let b = c .before .before in
+    let e : firstOf (judgedCases (reading b) 0) ≡ Accepted = judged-past (reading b) 0 (passed b) ∙ rw (tested b ∙ c .before .if1 .left) in
+    rw (e, c .remaining .ensures, b .before .before .before .before .read-loop .ensures)
 
 pub foretell-spec : {M : Type 1} → statement M
 foretell-spec =
@@ -68,6 +101,8 @@ foretell-spec =
     judge-requires
     enum-known-answer
     enum-told
-    remaining-requires
+    bad-transfer-requires
     returns
-    returns-2)
+    remaining-requires
+    returns-2
+    returns-3)

@@ -1,18 +1,20 @@
--- `desk::carry_out` meets its contract: the reading is that of the record, judged as the definition judges it, and stepped.
+-- `desk::carry_out` meets its contract: the reading is that of the record, judged as the definition judges it, stepped and written back.
 use native.Mathlib.Omega.{arith}
 use mathlib.Core.Path.{_≡_, sym, ap, _∙_}
 use denote.Ref.{now}
 use Rattle.refusals.specs.declared.Answer.the-variants.{Accepted}
 use Rattle.refusals.specs.Refusals.{firstOf}
+use Rattle.table.specs.declared.transfer.Transfer.{Transfer}
 use Rattle.table.specs.declared.reading.Reading.{Reading}
-use Rattle.table.specs.Reading.Laws.{input-high}
+use Rattle.table.specs.Reading.Laws.{input-high, major-sixteen}
 use Rattle.carried.specs.declared.record.Carried.{Carried}
-use Rattle.judging.specs.Judging.{readingCases}
+use Rattle.judging.specs.Judging.{readingCases, transferCases}
+use Rattle.engine.specs.declared.stepping.Stepped.{Stepped}
 use Rattle.engine.specs.Steps.{stepOf}
 use Rattle.engine.specs.Steps.Laws.{usable}
 use Rattle.engine.specs.Premises.{Usable}
-use Rattle.desk.specs.Desk.{lent, readingBy, judgedAnswer, stepAt, sampleDone}
-use Rattle.desk.specs.Desk.Laws.{promised}
+use Rattle.desk.specs.Desk.{Desk, lent, leftBy, readingBy, readingAt, stepAt, doneBy}
+use Rattle.desk.specs.Desk.Laws.{promised, judged-refused, written-back}
 use borrow.Author.Needs.{needs}
 use Rattle.desk.proofs.sampling.carry_out.Statement.{statement}
 use Rattle.desk.proofs.sampling.carry_out.Tie as tie
@@ -39,11 +41,15 @@ module _ (c : tie.After-judge) where
   judged = c .judge .ensures ∙ ap (λ (r : Reading). firstOf (readingCases r (start .args .raw))) (c .before .read-loop .ensures)
 
   -- which is the loop's
-  answered : let a = start .args in judgedAnswer (lent (now (a .words)) (now (a .numbers))) (a .number) (a .raw) ≡ c .judge .result
+  abbrev desk : Desk
+  desk = let a = start .args in lent (now (a .words)) (now (a .numbers))
+
+  own : readingBy (now (start .args .words)) (start .args .number) (start .args .carried) ≡ readingAt desk (start .args .number)
   unfolding start
-  answered =
-      let a = start .args in
-      sym (judged ∙ ap (λ (x : Carried). firstOf (readingCases (readingBy (now (a .words)) (a .number) x) (a .raw))) (start .pre .1 .0))
+  own = ap (readingBy (now (start .args .words)) (start .args .number)) (start .pre .1 .0)
+
+  answered : firstOf (readingCases (readingAt desk (start .args .number)) (start .args .raw)) ≡ c .judge .result
+  answered = sym (judged ∙ ap (λ (r : Reading). firstOf (readingCases r (start .args .raw))) own)
 
 -- the arm that accepts
 accepted : (c : tie.After-enum-told) → c .before .before .judge .result ≡ Accepted
@@ -76,18 +82,14 @@ stepped c =
     ∙ ap (λ (r : Reading). stepOf r (a .carried) (a .raw)) (j .before .read-loop .ensures)
     ∙ ap (λ (x : Carried). stepOf (readingBy (now (a .words)) (a .number) x) x (a .raw)) (s .pre .1 .0)
 
-write-words-requires : tie.Need-write-words-requires
-write-words-requires c κs = search needs
-
-slot-of-requires : tie.Need-slot-of-requires
-slot-of-requires c κs = search needs
-
-numbers-of-requires : tie.Need-numbers-of-requires
-numbers-of-requires c κs = search needs
-
-put-numbers-requires : tie.Need-put-numbers-requires
+write-back-requires : tie.Need-write-back-requires
 unfolding start
-put-numbers-requires c κs = let o = c .before in rw (o .slot-of .ensures) (start (o .before .before .before .before .before .before .before .before .before .before .before) .pre .0 .2)
+write-back-requires c κs =
+    let j = c .before .before .before .before .before in
+    let a = start j .args in
+    let p = start j .pre .0 in
+    let q = a .carried .state in
+    (p .0, p .1, p .2, rw (j .before .read-loop .ensures) (major-sixteen (now (a .words)) (a .number) (q .mode) (q .profile .segment)))
 
 same-length : tie.Need-same-length
 same-length c = search needs
@@ -96,7 +98,7 @@ returns : tie.Need-returns
 unfolding start
 returns c =
     let j = c .before .before .before in
-    promised _ _ (answered j ∙ c .before .answer .given .1)
+    promised _ _ (judged-refused (readingAt (desk j) (start j .args .number)) (start j .args .raw) (answered j ∙ c .before .answer .given .1))
 
 same-length-2 : tie.Need-same-length-2
 same-length-2 c = search needs
@@ -105,14 +107,23 @@ same-length-3 : tie.Need-same-length-3
 same-length-3 c = search needs
 
 returns-2 : tie.Need-returns-2
-unfolding start sampleDone
+unfolding start
 returns-2 c =
-    let p = c .before in
-    let n = p .before in
-    let w = n .before .before .before .before .before in
-    let s = w .before .before .before .before in
-    let j = s .before .before .before in
-    rw (p .put-numbers .ensures, n .numbers-of .ensures, n .before .slot-of .ensures, w .write-words .ensures, stepped s) (promised _ _ (answered j ∙ accepted (s .before)))
+    let b = c .before .before .before in
+    let s = b .before .before .before in
+    let e = s .before in
+    let j = e .before .before in
+    let k = start j .args .number in
+    let raw = start j .args .raw in
+    let from : j .before .read-loop .result .transfer ≡ readingAt (desk j) k .transfer = ap (λ (r : Reading). r .transfer) (j .before .read-loop .ensures ∙ own j) in
+    let done = stepped s in
+    written-back (desk j) k raw (answered j ∙ accepted e)
+    (b .write-back .ensures .0
+    ∙ ap (λ (t : Transfer). firstOf (transferCases t (s .step .result .written .pv))) from
+    ∙ ap (λ (x : Stepped). firstOf (transferCases (readingAt (desk j) k .transfer) (x .written .pv))) done)
+    (b .write-back .ensures .1
+    ∙ ap (λ (t : Transfer). leftBy (b .write-back .result) (doneBy (desk j) k t (s .step .result)) (desk j)) from
+    ∙ ap (λ (x : Stepped). leftBy (b .write-back .result) (doneBy (desk j) k (readingAt (desk j) k .transfer) x) (desk j)) done)
 
 pub carry-out-spec : {M : Type 1} → statement M
 carry-out-spec =
@@ -124,10 +135,7 @@ carry-out-spec =
     enum-told
     cast-step
     step-requires
-    write-words-requires
-    slot-of-requires
-    numbers-of-requires
-    put-numbers-requires
+    write-back-requires
     same-length
     returns
     same-length-2

@@ -33,7 +33,7 @@ carry-out-requires : tie.Need-carry-out-requires
 unfolding start
 carry-out-requires c κs =
     let t = there (c .before .before .before) in
-    ((t .memory .words, t .below, omega (arith, t .memory .numbers, t .above, t .below)), (t .record′, t .range))
+    ((t .memory .words, t .memory .numbers, t .below), (t .record′, t .range))
 
 same-length : tie.Need-same-length
 same-length c = search needs

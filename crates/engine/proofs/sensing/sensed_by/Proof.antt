@@ -11,6 +11,9 @@ measured-requires c κs = search needs
 enters-requires : tie.Need-enters-requires
 enters-requires c κs = search needs
 
+changes-requires : tie.Need-changes-requires
+changes-requires c κs = search needs
+
 runs-on-requires : tie.Need-runs-on-requires
 runs-on-requires c κs = search needs
 
@@ -26,20 +29,27 @@ fault-after-requires c κs = search needs
 error-in-requires : tie.Need-error-in-requires
 error-in-requires c κs = search needs
 
+mark-after-requires : tie.Need-mark-after-requires
+mark-after-requires c κs = search needs
+
 returns : tie.Need-returns
 unfolding sensedOf
 returns c =
-    let e = c .error-in in
-    let p = c .before .before .before in
+    let f = c .before .before in
+    let e = c .before .error-in in
+    let p = f .before .before in
     let t = p .before in
-    let n = t .before .before .before .before in
+    let h = t .before .before .before .before in
+    let n = h .before in
     simp (got (e .result) (e .ok))
     (simp (
+      c .mark-after .ensures,
       e .ensures,
-      c .before .fault-after .ensures,
+      f .fault-after .ensures,
       p .profiled .ensures,
       t .target-of .ensures,
       t .before .runs-on .ensures,
+      h .changes .ensures,
       n .enters .ensures,
       n .before .measured .ensures,
     ))
@@ -50,9 +60,11 @@ sensed-by-spec =
     (tie.spec
     measured-requires
     enters-requires
+    changes-requires
     runs-on-requires
     target-of-requires
     profiled-requires
     fault-after-requires
     error-in-requires
+    mark-after-requires
     returns)

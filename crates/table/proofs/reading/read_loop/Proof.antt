@@ -32,6 +32,12 @@ mode-after-requires c κs = search needs
 read-remote-requires : tie.Need-read-remote-requires
 read-remote-requires c κs = search needs
 
+is-transfer-requires : tie.Need-is-transfer-requires
+is-transfer-requires c κs = search needs
+
+read-transfer-requires : tie.Need-read-transfer-requires
+read-transfer-requires c κs = search needs
+
 add-at : tie.Need-add-at
 add-at c = search needs
 
@@ -47,9 +53,12 @@ read-program-requires c κs = search needs
 returns : tie.Need-returns
 unfolding readingOf
 returns c =
-    let r = c .before .before in
+    let t = c .before .before in
+    let r = t .before .before in
     simp (
       c .read-program .ensures,
+      t .read-transfer .ensures,
+      t .before .is-transfer .ensures,
       r .read-remote .ensures,
       r .before .mode-after .ensures,
       r .before .before .before .read-settings .ensures,
@@ -70,6 +79,8 @@ read-loop-spec =
     read-settings-requires
     mode-after-requires
     read-remote-requires
+    is-transfer-requires
+    read-transfer-requires
     add-at
     mul-at
     shared-slice-read-at

@@ -1,0 +1,114 @@
+-- What is promised of the transfer, proved.
+use Prim.Native.Nat.{ℕ, _+_, _≤_}
+use mathlib.Core.Path.{_≡_, refl, sym, _∙_}
+use mathlib.Core.Bool.{Bool, true, false, not, _&&_, _||_, or-true}
+use lib.ListN.{getD}
+use borrow.Author.Tests.{not-true}
+use Rattle.refusals.specs.Refusals.{numberOf}
+use Rattle.table.specs.declared.mode.Mode.{Mode}
+use Rattle.table.specs.declared.mode.Mode.the-variants.{Manual, Automatic, Cascade}
+use Rattle.table.specs.declared.reading.Reading.{Reading}
+use Rattle.table.specs.Words.{baseOf}
+use Rattle.table.specs.Words.Laws.{and-true}
+use Rattle.table.specs.Modes.{isManual, isAutomatic, isCascade}
+use Rattle.table.specs.Transfers.{transfers, majorOf, transferOf}
+use Rattle.table.specs.Transfers.Laws.{major-found, major-none}
+use Rattle.table.specs.Reading.{readingOf}
+use Rattle.carried.specs.declared.record.State.{State}
+use Rattle.carried.specs.Layout.{recordAt}
+use Rattle.engine.specs.Sensing.{changed, entering, targetOf, profiledOf, sensedOf}
+use Rattle.engine.specs.Writing.{writtenOf}
+use Rattle.engine.specs.Steps.{stepOf}
+use Rattle.desk.specs.Desk.{Desk, readingAt, stepAt, sampleAnswer, sampleLeft}
+use Rattle.claims.specs.Demand2.{transferAt, pvAt}
+use Rattle.claims.specs.Transfers.{Bumpless, Transferred}
+use Rattle.claims.proofs.Demand2.{demand-2}
+
+-- ---- when a sample is one
+
+from-automatic : (m : Mode) → isAutomatic m ≡ true → m ≡ Automatic
+from-automatic Automatic e = refl
+from-automatic Manual e = let z : false ≡ true = e in cc
+from-automatic Cascade e = let z : false ≡ true = e in cc
+
+to-cascade : (m : Mode) → isCascade m ≡ true → m ≡ Cascade
+to-cascade Cascade e = refl
+to-cascade Manual e = let z : false ≡ true = e in cc
+to-cascade Automatic e = let z : false ≡ true = e in cc
+
+by-three : (before after : Mode) (two : Bool) → before ≡ Automatic → after ≡ Cascade → two ≡ false → transfers before after two ≡ true
+unfolding transfers
+by-three before after two e f g = rw (e, f, g)
+
+module _ (d : Desk) (k : ℕ) where
+  abbrev former : Mode
+  former = recordAt (d .numbers) k .state .mode
+
+  abbrev r : Reading
+  r = readingAt d k
+
+  read : transferAt d k .on ≡ transfers former (r .mode) (r .settings .mode1 .bumpless)
+  unfolding readingOf transferOf
+  read = refl
+
+  is-one : Bumpless d k → transferAt d k .on ≡ true
+  is-one b = read ∙ by-three former (r .mode) (r .settings .mode1 .bumpless) (b .before) (b .after) (b .one)
+
+  only-one : transferAt d k .on ≡ true → Bumpless d k
+  unfolding transfers
+  only-one on =
+      let p = and-true (isAutomatic former && isCascade (r .mode)) (not (r .settings .mode1 .bumpless)) (sym read ∙ on) in
+      let q = and-true (isAutomatic former) (isCascade (r .mode)) (p .0) in
+      record { before = from-automatic former (q .0); after = to-cascade (r .mode) (q .1); one = not-true (r .settings .mode1 .bumpless) (p .1) }
+
+  named : transferAt d k .on ≡ true → transferAt d k .major ≡ majorOf k (r .settings .pointer)
+  unfolding readingOf transferOf
+  named on = rw on
+
+-- ---- what it leaves
+
+kept-inside : (d : Desk) (k raw : ℕ) → numberOf (sampleAnswer d k raw) ≡ 0 → transferAt d k .on ≡ true → let base = baseOf (transferAt d k .major) in
+    (getD (d .words) (base + 24) 0 ≤ getD (sampleLeft d k raw .words) (base + 5) 0) × (getD (sampleLeft d k raw .words) (base + 5) 0 ≤ getD (d .words) (base + 25) 0)
+kept-inside d k raw e on =
+    let m = demand-2 .only d k raw e .transfer on in
+    rw (demand-2 .handed d k raw e on .1) (m .low, m .high)
+
+settled : (d : Desk) (k raw : ℕ) → transferAt d k .on ≡ true
+    → (stepAt d k raw .written .setpoint ≡ pvAt d k raw) × (stepAt d k raw .written .pv ≡ pvAt d k raw)
+unfolding stepOf writtenOf sensedOf profiledOf targetOf
+settled d k raw on =
+    let cascade : isCascade (readingAt d k .mode) ≡ true = rw (only-one d k on .after) in
+    (rw (cascade, on), refl)
+
+no-entry : (d : Desk) (k raw : ℕ) → transferAt d k .on ≡ true → let state = recordAt (d .numbers) k .state in
+    let r = readingAt d k in
+    changed state (r .settings .mode1 .velocity) ≡ false → state .mark ≡ false → sensedOf r state raw .entry ≡ false
+unfolding sensedOf entering
+no-entry d k raw on same off = rw (same, off, only-one d k on .after)
+
+-- ---- what a mark does
+
+module _ (r : Reading) (state : State) (raw : ℕ) where
+  marked-entry : state .mark ≡ true → isManual (r .mode) ≡ false → (sensedOf r state raw .entry ≡ true) × (sensedOf r state raw .state .mark ≡ false)
+  unfolding sensedOf entering changed
+  marked-entry on automatic = (rw (on, automatic) (or-true (changed state (r .settings .mode1 .velocity))), rw automatic)
+
+  kept-manual : isManual (r .mode) ≡ true → (sensedOf r state raw .entry ≡ false) × (sensedOf r state raw .state .mark ≡ state .mark)
+  unfolding sensedOf entering
+  kept-manual manual = (rw manual, rw manual)
+
+pub transferred : Transferred
+unfolding sensedOf changed
+transferred = record {
+  is = is-one;
+  only = only-one;
+  major = named;
+  found = major-found;
+  none = major-none;
+  inside = kept-inside;
+  settles = settled;
+  enters = no-entry;
+  entry = marked-entry;
+  manual = kept-manual;
+  unforced = λ r state raw. (refl, refl, refl);
+}
