@@ -116,7 +116,8 @@ enum kexbardi_mode_1 {
     KEXBARDI_M1_AUTOMATIC = 0x0002,
     KEXBARDI_M1_CASCADE = 0x0004,
     KEXBARDI_M1_BUMPLESS_II = 0x0008,      /* off: Bumpless I, the setpoint becomes the PV at an entry to Automatic,
-                                              unless a profile runs (A4, G11), and from Automatic to Cascade the
+                                              unless a profile runs (A4, G11) or a mark alone makes the entry
+                                              (A13), and from Automatic to Cascade the
                                               setpoint and the major loop's output become the PV (A13) */
     KEXBARDI_M1_REVERSE = 0x0010,          /* the output rises with the PV; off: it falls as the PV rises (M1) */
     KEXBARDI_M1_VELOCITY = 0x0020,         /* velocity form; off: position form */

@@ -2,7 +2,7 @@
 use Prim.Native.Nat.{ℕ, _+_, _%_, _≤_, _<_}
 use native.Mathlib.Omega.{arith}
 use mathlib.Core.Path.{_≡_, refl, sym, ap, _∙_, subst}
-use mathlib.Core.Bool.{Bool, true, false, _||_}
+use mathlib.Core.Bool.{Bool, true, false, _&&_, _||_}
 use mathlib.Core.Logic.{inl, inr}
 use mathlib.Core.List.{List, [], _∷_, append-nil}
 use lib.Dec.{ltb, eqb}
@@ -18,8 +18,9 @@ use Rattle.refusals.specs.Refusals.{numberOf, _⇒_, firstOf}
 use Rattle.refusals.specs.Refusals.Laws.{in-table, accepted-only, first-of-kind}
 use Rattle.table.specs.declared.reading.Reading.{Reading}
 use Rattle.table.specs.Words.{any}
+use Rattle.table.specs.Transfers.{majorIn}
 use Rattle.carried.specs.Layout.{fieldCount, numberCount, slotOf, numbersAt, recordAt, outOfRange}
-use Rattle.judging.specs.Judging.{badTransfer}
+use Rattle.judging.specs.Judging.{badMajor}
 use Rattle.engine.specs.Sensing.{pvIn}
 use Rattle.desk.specs.Desk.{Desk, lent, fittingOf, memoryCases, noLoop, resetAnswer, resetLeft, engineWord, storeCases, storeAnswer, storeLeft, readingAt, judgedCases, sampleCases, sampleAnswer, remainingOf, countedBy, forecastAt, copiedBy, fieldsAnswer, fieldsLeft}
 use Rattle.desk.specs.Desk.Laws.{sound, there-loop, answer-ranged, reset-sound, reset-numbers}
@@ -120,19 +121,19 @@ one-of false false false true setpoint above transfer some = refl
 one-of false false false false true above transfer some = refl
 one-of false false false false false above transfer some = absurd (some refl refl refl refl refl)
 
-module _ (r : Reading) (raw : ℕ) where
-  digit : (r .settings .baddigit || r .program .baddigit) ≡ true → numberOf (firstOf (judgedCases r raw)) ≡ 7
+module _ (ws : List ℕ) (k : ℕ) (r : Reading) (raw : ℕ) where
+  digit : (r .settings .baddigit || r .program .baddigit) ≡ true → numberOf (firstOf (judgedCases ws k r raw)) ≡ 7
   digit e = rw e
 
-  setting : (r .settings .baddigit || r .program .baddigit) ≡ false → (Settled r → ⊥) → numberOf (firstOf (judgedCases r raw)) ≡ 8
+  setting : (r .settings .baddigit || r .program .baddigit) ≡ false → (Settled r → ⊥) → numberOf (firstOf (judgedCases ws k r raw)) ≡ 8
   setting e some =
-      rw e (one-of _ _ _ _ _ (ltb (r .settings .mode2 .input .scale) raw) (badTransfer (r .transfer) (pvIn r raw))
+      rw e (one-of _ _ _ _ _ (ltb (r .settings .mode2 .input .scale) raw) (r .transfer && badMajor (majorIn ws k (r .settings .pointer)) (pvIn r raw))
       (λ m x t l s. some (record { digit = e; modes = m; ends = x; times = t; limits = l; setpoint = s })))
 
-  not-over : Settled r → raw ≤ r .settings .mode2 .input .scale → badTransfer (r .transfer) (pvIn r raw) ≡ true → numberOf (firstOf (judgedCases r raw)) ≡ 11
+  not-over : Settled r → raw ≤ r .settings .mode2 .input .scale → (r .transfer && badMajor (majorIn ws k (r .settings .pointer)) (pvIn r raw)) ≡ true → numberOf (firstOf (judgedCases ws k r raw)) ≡ 11
   not-over p h e = rw (p .digit, p .modes, p .ends, p .times, p .limits, p .setpoint, le-ltb (r .settings .mode2 .input .scale) raw h, e)
 
-  too-high : Settled r → r .settings .mode2 .input .scale < raw → numberOf (firstOf (judgedCases r raw)) ≡ 9
+  too-high : Settled r → r .settings .mode2 .input .scale < raw → numberOf (firstOf (judgedCases ws k r raw)) ≡ 9
   too-high p h = rw (p .digit, p .modes, p .ends, p .times, p .limits, p .setpoint, lt-ltb (r .settings .mode2 .input .scale) raw h)
 
 module _ (d : Desk) (k raw : ℕ) (fit : fittingOf d ≡ true) where
@@ -145,8 +146,9 @@ module _ (d : Desk) (k raw : ℕ) (fit : fittingOf d ≡ true) where
     loop = no-loop;
     carried = λ above below e. ap numberOf (answer-ranged d k raw fit above below) ∙ rw e;
     reading = λ above below e.
-        let a : sampleAnswer d k raw ≡ firstOf (judgedCases (readingAt d k) raw) = answer-ranged d k raw fit above below ∙ rw e in
-        rw a (digit (readingAt d k) raw, setting (readingAt d k) raw, too-high (readingAt d k) raw, not-over (readingAt d k) raw);
+        let r = readingAt d k in
+        let a : sampleAnswer d k raw ≡ firstOf (judgedCases (d .words) k (readingAt d k) raw) = answer-ranged d k raw fit above below ∙ rw e in
+        rw a (digit (d .words) k r raw, setting (d .words) k r raw, too-high (d .words) k r raw, not-over (d .words) k r raw);
   }
 
 -- ---- forecasts

@@ -3,25 +3,27 @@ use Prim.Native.Nat.{ℕ, _+_, _≤_, _<_}
 use native.Mathlib.Omega.{arith}
 use mathlib.Core.Path.{_≡_, refl, sym, ap, _∙_}
 use mathlib.Core.List.{List, [], _∷_, _++_}
-use mathlib.Core.Bool.{Bool, true, false}
+use mathlib.Core.Bool.{Bool, true, false, cond, _&&_}
 use lib.IntN.{ℤ, pos}
 use lib.ListN.{length, getD, set}
 use borrow.Author.Tests.{eq-eqb, ne-eqb, le-ltb, ltb-false}
 use Rattle.refusals.specs.declared.Answer.{Answer}
 use Rattle.refusals.specs.declared.Answer.the-variants.{Accepted, Refused}
 use Rattle.refusals.specs.declared.Refusal.the-variants.{Record}
+use Rattle.refusals.specs.declared.Refusal.the-variants.{Transfer as NoTransfer}
 use Rattle.refusals.specs.Refusals.{numberOf, _⇒_, firstOf}
 use Rattle.refusals.specs.Refusals.Laws.{accepted-only, accepted-rest}
 use Rattle.table.specs.declared.reading.Reading.{Reading}
 use Rattle.table.specs.Words.{baseOf, blockAt}
 use Rattle.table.specs.Words.Laws.{block-at}
-use Rattle.table.specs.Transfers.{majorOf}
-use Rattle.table.specs.Transfers.Laws.{limits-same}
-use Rattle.table.specs.Reading.Laws.{numbered, reading-local, transferred}
+use Rattle.table.specs.declared.transfer.Major.{Major}
+use Rattle.table.specs.Transfers.{majorOf, majorIn}
+use Rattle.table.specs.Transfers.Laws.{major-read, major-local}
+use Rattle.table.specs.Reading.Laws.{numbered, reading-local}
 use Rattle.carried.specs.declared.record.Carried.{Carried}
 use Rattle.carried.specs.Layout.{slotOf, outOfRange, recordFrom, numbersOf, numbersAt, recordAt}
-use Rattle.judging.specs.Judging.{readingCases, transferCases, Passed}
-use Rattle.judging.specs.Judging.Laws.{passed, passing, Transferred, good-transfer}
+use Rattle.judging.specs.Judging.{readingCases, badMajor, transferCases, Passed}
+use Rattle.judging.specs.Judging.Laws.{passed, passing, Handed, good-major}
 use Rattle.engine.specs.declared.stepping.Stepped.{Stepped}
 use Rattle.engine.specs.Sensing.{pvIn, setpointOf, targetOf, profiledOf, faultAfter, sensedOf}
 use Rattle.engine.specs.Driving.{drivenOf}
@@ -35,23 +37,31 @@ use Rattle.session.specs.Session.{begun as started, callsOf, leftOf}
 use Rattle.session.specs.Session.Laws.{run-desk}
 use Rattle.kexbardi.specs.Interface.{lineLeft}
 use Rattle.claims.specs.Turns.{Made, one, file, Turn, found, madeLeft, behind, behindAll}
-use Rattle.claims.specs.Demand2.{transferAt, pvAt, ToMajor, Acceptable, Other, Done, Agree, InRange, Demand2}
+use Rattle.claims.specs.Demand2.{transferAt, majorAt, pvAt, ToMajor, Acceptable, Other, Done, Agree, InRange, Demand2}
 use Rattle.claims.proofs.Turns.{unfit-behind, record-found, record-behind}
 
 -- ---- when it is accepted
 
 -- N11 by the limits that were read, and by the words where they stand
-module _ (d : Desk) (k raw : ℕ) (on : transferAt d k .on ≡ true) where
-  read : (transferAt d k .major ≡ 0 → ⊥)
-      → (transferAt d k .limits .low ≡ getD (d .words) (baseOf (transferAt d k .major) + 24) 0)
-      × (transferAt d k .limits .high ≡ getD (d .words) (baseOf (transferAt d k .major) + 25) 0)
-  read some = let c = recordAt (d .numbers) k in let t = transferred (d .words) k (c .state .mode) (c .state .profile .segment) on some in (t .1, t .2)
+module _ (d : Desk) (k raw : ℕ) where
+  abbrev read : Major
+  read = majorIn (d .words) k (readingAt d k .settings .pointer)
 
-  from-major : ToMajor d k raw → Transferred (transferAt d k) (pvAt d k raw)
-  from-major m = let e = read (m .major) in record { major = m .major; low = rw (e .0) (m .low); high = rw (e .1) (m .high) }
+  from-major : ToMajor d k raw → Handed read (pvAt d k raw)
+  unfolding majorIn
+  from-major m = let e = major-read (d .words) k (readingAt d k .settings .pointer) (m .major) in record { number = m .major; low = rw (e .1) (m .low); high = rw (e .2) (m .high) }
 
-  to-major : Transferred (transferAt d k) (pvAt d k raw) → ToMajor d k raw
-  to-major m = let e = read (m .major) in record { major = m .major; low = rw (e .0) at (m .low); high = rw (e .1) at (m .high) }
+  to-major : Handed read (pvAt d k raw) → ToMajor d k raw
+  unfolding majorIn
+  to-major m = let e = major-read (d .words) k (readingAt d k .settings .pointer) (m .number) in record { major = m .number; low = rw (e .1) at (m .low); high = rw (e .2) at (m .high) }
+
+  -- a sample that is no transfer passes it
+  passing-major : (transferAt d k ≡ true → ToMajor d k raw) → (transferAt d k && badMajor read (pvAt d k raw)) ≡ false
+  passing-major h = go (transferAt d k) refl
+    where
+      go : (b : Bool) → transferAt d k ≡ b → (b && badMajor read (pvAt d k raw)) ≡ false
+      go true on = good-major read (pvAt d k raw) (from-major (h on))
+      go false off = refl
 
 acceptable : (d : Desk) (k raw : ℕ) → Acceptable d k raw → numberOf (sampleAnswer d k raw) ≡ 0
 acceptable d k raw a =
@@ -59,18 +69,18 @@ acceptable d k raw a =
     let above = le-ltb (readingAt d k .settings .mode2 .input .scale) raw (a .below) in
     let p : Passed (readingAt d k) raw
     = record { digit = r .digit; modes = r .modes; ends = r .ends; times = r .times; limits = r .limits; setpoint = r .setpoint; above = above } in
-    let good = good-transfer (transferAt d k) (pvAt d k raw) (λ on. from-major d k raw on (a .transfer on)) in
+    let good = passing-major d k raw (a .transfer) in
     let e : sampleAnswer d k raw ≡ Accepted
-    = answer-ranged d k raw (a .memory) (a .loop .0) (a .loop .1) ∙ rw (a .carried) (judged-past (readingAt d k) raw (passing (readingAt d k) raw p) ∙ rw good) in
+    = answer-ranged d k raw (a .memory) (a .loop .0) (a .loop .1) ∙ rw (a .carried) (judged-past (d .words) k (readingAt d k) raw (passing (readingAt d k) raw p) ∙ rw good) in
     ap numberOf e
 
 only-then : (d : Desk) (k raw : ℕ) → numberOf (sampleAnswer d k raw) ≡ 0 → Acceptable d k raw
 unfolding sampleAnswer
 only-then d k raw z =
     let e = accepted-only (sampleAnswer d k raw) z in
-    let p = accepted-rest (memoryCases d) (loopCases (d .numbers) k ++ judgedCases (readingAt d k) raw) e in
-    let q = accepted-rest (loopCases (d .numbers) k) (judgedCases (readingAt d k) raw) (p .1) in
-    let j = accepted-rest (readingCases (readingAt d k) raw) (transferCases (transferAt d k) (pvAt d k raw)) (q .1) in
+    let p = accepted-rest (memoryCases d) (loopCases (d .numbers) k ++ judgedCases (d .words) k (readingAt d k) raw) e in
+    let q = accepted-rest (loopCases (d .numbers) k) (judgedCases (d .words) k (readingAt d k) raw) (p .1) in
+    let j = accepted-rest (readingCases (readingAt d k) raw) (transferCases (transferAt d k) (read d k raw) (pvAt d k raw)) (q .1) in
     let loop = known-loop (d .numbers) k (q .0) in
     let r = passed (readingAt d k) raw (j .0) in
     record {
@@ -79,7 +89,7 @@ only-then d k raw z =
       carried = loop .range;
       reading = record { digit = r .digit; modes = r .modes; ends = r .ends; times = r .times; limits = r .limits; setpoint = r .setpoint };
       below = ltb-false _ _ (r .above);
-      transfer = λ on. to-major d k raw on (sampled d k raw e .transfer on);
+      transfer = λ on. to-major d k raw (sampled d k raw e .transfer on);
     }
 
 -- ---- what a sample leaves
@@ -96,7 +106,7 @@ line-shown : (d : Desk) (k raw : ℕ) (line : List ℕ) → numberOf (sampleAnsw
 unfolding lineLeft
 line-shown d k raw line e = rw (eq-eqb (numberOf (sampleAnswer d k raw)) 0 e)
 
-handed-over : (d : Desk) (k raw : ℕ) → numberOf (sampleAnswer d k raw) ≡ 0 → transferAt d k .on ≡ true → let j = transferAt d k .major in
+handed-over : (d : Desk) (k raw : ℕ) → numberOf (sampleAnswer d k raw) ≡ 0 → transferAt d k ≡ true → let j = majorAt d k in
     (readingAt d k .settings .pointer ≡ baseOf j + 5)
     × (getD (sampleLeft d k raw .words) (baseOf j + 5) 0 ≡ pvAt d k raw)
     × (numbersAt (sampleLeft d k raw .numbers) (slotOf j) ≡ set (numbersAt (d .numbers) (slotOf j)) 13 (pos 1))
@@ -105,8 +115,8 @@ handed-over d k raw e on =
     let a = accepted-only (sampleAnswer d k raw) e in
     let s = sampled d k raw a in
     let m = major-there d k raw s on in
-    let all : marks (transferAt d k) (transferAt d k .major) ≡ true = rw (on, eq-eqb (transferAt d k .major) (transferAt d k .major) refl) in
-    rw a (m .output, major-word d k raw s on, marked-numbers d k raw s (transferAt d k .major) (m .above) (m .other) all)
+    let all : marks k (readingAt d k) (majorAt d k) ≡ true = rw (on, eq-eqb (majorAt d k) (majorAt d k) refl) in
+    rw a (m .output, major-word d k raw s on, marked-numbers d k raw s (majorAt d k) (m .above) (m .other) all)
 
 words-kept : (d : Desk) (k raw i : ℕ) → Other d k i → getD (sampleLeft d k raw .words) i 0 ≡ getD (d .words) i 0
 unfolding sampleLeft
@@ -116,15 +126,15 @@ words-kept d k raw i o =
     (record { mode = o .mode; setpoint = o .setpoint; pv = o .pv; bias = o .bias; output = o .output; status = o .status; flags = o .flags; fault = o .fault })
     (o .pointed)) refl
 
-records-kept : (d : Desk) (k raw j : ℕ) → 1 ≤ j → (j ≡ k → ⊥) → (transferAt d k .on ≡ true → j ≡ transferAt d k .major → ⊥)
+records-kept : (d : Desk) (k raw j : ℕ) → 1 ≤ j → (j ≡ k → ⊥) → (transferAt d k ≡ true → j ≡ majorAt d k → ⊥)
     → numbersAt (sampleLeft d k raw .numbers) (slotOf j) ≡ numbersAt (d .numbers) (slotOf j)
 unfolding sampleLeft
 records-kept d k raw j first other unmarked =
     by-answer (λ (e : Desk). numbersAt (e .numbers) (slotOf j) ≡ numbersAt (d .numbers) (slotOf j)) (sampleAnswer d k raw)
-    (λ a. other-numbers d k raw (sampled d k raw a) j first other (none (transferAt d k .on) refl)) refl
+    (λ a. other-numbers d k raw (sampled d k raw a) j first other (none (transferAt d k) refl)) refl
   where
-    none : (b : Bool) → transferAt d k .on ≡ b → marks (transferAt d k) j ≡ false
-    none true on = rw (on, ne-eqb (transferAt d k .major) j (λ e. unmarked on (sym e)))
+    none : (b : Bool) → transferAt d k ≡ b → marks k (readingAt d k) j ≡ false
+    none true on = rw (on, ne-eqb (majorAt d k) j (λ e. unmarked on (sym e)))
     none false off = rw off
 
 lengths-kept : (d : Desk) (k raw : ℕ)
@@ -155,15 +165,41 @@ module _ (d d′ : Desk) (k k′ raw : ℕ) (agree : Agree d d′ k k′) where
   reading-same : readingAt d k ≡ numbered k (readingAt d′ k′)
   reading-same =
       let state = recordAt (d .numbers) k .state in
-      reading-local (d .words) (d′ .words) k k′ (state .mode) (state .profile .segment) (agree .words) (agree .pointed)
-      (λ on. (agree .major on, limits-same (d .words) (d′ .words) (majorOf k (readingAt d k .settings .pointer)) (agree .limits on))) (agree .table)
+      reading-local (d .words) (d′ .words) k k′ (state .mode) (state .profile .segment) (agree .words) (agree .pointed) (agree .table)
       ∙ ap (λ (c : Carried). numbered k (readingBy (d′ .words) k′ c)) carried-same
+
+  abbrev r′ : Reading
+  r′ = readingAt d′ k′
+
+  pointer-same : readingAt d k .settings .pointer ≡ r′ .settings .pointer
+  pointer-same = ap (λ (r : Reading). r .settings .pointer) reading-same
+
+  transfer-same : transferAt d k ≡ transferAt d′ k′
+  transfer-same = ap (λ (r : Reading). r .transfer) reading-same
+
+  major-same : transferAt d k ≡ true → majorAt d k ≡ majorAt d′ k′
+  major-same on = agree .major on ∙ ap (majorOf k′) pointer-same
+
+  -- N11: the major loop is read alike, where it is read
+  tested-same : (transferAt d k && badMajor (read d k raw) (pvAt d k raw)) ≡ (transferAt d k && badMajor (read d′ k′ raw) (pvAt d k raw))
+  tested-same = go (transferAt d k) refl
+    where
+      go : (b : Bool) → transferAt d k ≡ b → (b && badMajor (read d k raw) (pvAt d k raw)) ≡ (b && badMajor (read d′ k′ raw) (pvAt d k raw))
+      go false off = refl
+      go true on =
+          ap (λ (m : Major). badMajor m (pvAt d k raw))
+          (major-local (d .words) (d′ .words) k k′ (readingAt d k .settings .pointer) (agree .major on) (agree .limits on) ∙ ap (majorIn (d′ .words) k′) pointer-same)
+
+  judged-same : firstOf (judgedCases (d .words) k (readingAt d k) raw) ≡ firstOf (judgedCases (d′ .words) k′ r′ raw)
+  judged-same =
+      ap (λ (b : Bool). firstOf (readingCases (readingAt d k) raw ++ ((b ⇒ NoTransfer) ∷ []))) tested-same
+      ∙ ap (λ (r : Reading). firstOf (readingCases r raw ++ ((r .transfer && badMajor (read d′ k′ raw) (pvIn r raw) ⇒ NoTransfer) ∷ []))) reading-same
 
   answer-same : sampleAnswer d k raw ≡ sampleAnswer d′ k′ raw
   answer-same =
       answer-ranged d k raw (agree .memory) (agree .loop .0) (agree .loop .1)
-      ∙ ap (λ (ns : List ℤ). firstOf ((outOfRange ns ⇒ Record) ∷ judgedCases (readingAt d k) raw)) (agree .numbers)
-      ∙ ap (λ (r : Reading). firstOf ((outOfRange (numbersAt (d′ .numbers) (slotOf k′)) ⇒ Record) ∷ judgedCases r raw)) reading-same
+      ∙ ap (λ (ns : List ℤ). firstOf ((outOfRange ns ⇒ Record) ∷ judgedCases (d .words) k (readingAt d k) raw)) (agree .numbers)
+      ∙ ap (λ (a : Answer). cond (outOfRange (numbersAt (d′ .numbers) (slotOf k′))) (Refused Record) a) judged-same
       ∙ sym (answer-ranged d′ k′ raw (agree .memory′) (agree .loop′ .0) (agree .loop′ .1))
 
   step-same : stepAt d k raw ≡ stepAt d′ k′ raw
@@ -238,7 +274,8 @@ demand-2 = record {
         w .0,
         w .1,
         line-alike d d′ k k′ raw agree line,
-        ap (λ (r : Reading). r .transfer) same,
+        transfer-same d d′ k k′ raw agree,
+        major-same d d′ k k′ raw agree,
         ap (λ (r : Reading). pvIn r raw) same,
       );
   ranges = λ d ts k above below h. all-ranges k above below d ts h;

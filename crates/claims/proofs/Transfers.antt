@@ -11,7 +11,7 @@ use Rattle.table.specs.declared.reading.Reading.{Reading}
 use Rattle.table.specs.Words.{baseOf}
 use Rattle.table.specs.Words.Laws.{and-true}
 use Rattle.table.specs.Modes.{isManual, isAutomatic, isCascade}
-use Rattle.table.specs.Transfers.{transfers, majorOf, transferOf}
+use Rattle.table.specs.Transfers.{transfers}
 use Rattle.table.specs.Transfers.Laws.{major-found, major-none}
 use Rattle.table.specs.Reading.{readingOf}
 use Rattle.carried.specs.declared.record.State.{State}
@@ -20,7 +20,7 @@ use Rattle.engine.specs.Sensing.{changed, entering, targetOf, profiledOf, sense
 use Rattle.engine.specs.Writing.{writtenOf}
 use Rattle.engine.specs.Steps.{stepOf}
 use Rattle.desk.specs.Desk.{Desk, readingAt, stepAt, sampleAnswer, sampleLeft}
-use Rattle.claims.specs.Demand2.{transferAt, pvAt}
+use Rattle.claims.specs.Demand2.{transferAt, majorAt, pvAt}
 use Rattle.claims.specs.Transfers.{Bumpless, Transferred}
 use Rattle.claims.proofs.Demand2.{demand-2}
 
@@ -47,40 +47,36 @@ module _ (d : Desk) (k : ℕ) where
   abbrev r : Reading
   r = readingAt d k
 
-  read : transferAt d k .on ≡ transfers former (r .mode) (r .settings .mode1 .bumpless)
-  unfolding readingOf transferOf
+  read : transferAt d k ≡ transfers former (r .mode) (r .settings .mode1 .bumpless)
+  unfolding readingOf
   read = refl
 
-  is-one : Bumpless d k → transferAt d k .on ≡ true
+  is-one : Bumpless d k → transferAt d k ≡ true
   is-one b = read ∙ by-three former (r .mode) (r .settings .mode1 .bumpless) (b .before) (b .after) (b .one)
 
-  only-one : transferAt d k .on ≡ true → Bumpless d k
+  only-one : transferAt d k ≡ true → Bumpless d k
   unfolding transfers
   only-one on =
       let p = and-true (isAutomatic former && isCascade (r .mode)) (not (r .settings .mode1 .bumpless)) (sym read ∙ on) in
       let q = and-true (isAutomatic former) (isCascade (r .mode)) (p .0) in
       record { before = from-automatic former (q .0); after = to-cascade (r .mode) (q .1); one = not-true (r .settings .mode1 .bumpless) (p .1) }
 
-  named : transferAt d k .on ≡ true → transferAt d k .major ≡ majorOf k (r .settings .pointer)
-  unfolding readingOf transferOf
-  named on = rw on
-
 -- ---- what it leaves
 
-kept-inside : (d : Desk) (k raw : ℕ) → numberOf (sampleAnswer d k raw) ≡ 0 → transferAt d k .on ≡ true → let base = baseOf (transferAt d k .major) in
+kept-inside : (d : Desk) (k raw : ℕ) → numberOf (sampleAnswer d k raw) ≡ 0 → transferAt d k ≡ true → let base = baseOf (majorAt d k) in
     (getD (d .words) (base + 24) 0 ≤ getD (sampleLeft d k raw .words) (base + 5) 0) × (getD (sampleLeft d k raw .words) (base + 5) 0 ≤ getD (d .words) (base + 25) 0)
 kept-inside d k raw e on =
     let m = demand-2 .only d k raw e .transfer on in
     rw (demand-2 .handed d k raw e on .1) (m .low, m .high)
 
-settled : (d : Desk) (k raw : ℕ) → transferAt d k .on ≡ true
+settled : (d : Desk) (k raw : ℕ) → transferAt d k ≡ true
     → (stepAt d k raw .written .setpoint ≡ pvAt d k raw) × (stepAt d k raw .written .pv ≡ pvAt d k raw)
 unfolding stepOf writtenOf sensedOf profiledOf targetOf
 settled d k raw on =
     let cascade : isCascade (readingAt d k .mode) ≡ true = rw (only-one d k on .after) in
     (rw (cascade, on), refl)
 
-no-entry : (d : Desk) (k raw : ℕ) → transferAt d k .on ≡ true → let state = recordAt (d .numbers) k .state in
+no-entry : (d : Desk) (k raw : ℕ) → transferAt d k ≡ true → let state = recordAt (d .numbers) k .state in
     let r = readingAt d k in
     changed state (r .settings .mode1 .velocity) ≡ false → state .mark ≡ false → sensedOf r state raw .entry ≡ false
 unfolding sensedOf entering
@@ -102,7 +98,6 @@ unfolding sensedOf changed
 transferred = record {
   is = is-one;
   only = only-one;
-  major = named;
   found = major-found;
   none = major-none;
   inside = kept-inside;

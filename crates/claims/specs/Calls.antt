@@ -1,7 +1,7 @@
 -- What every direct call (Q1 to Q4, Q11, Q12) answers and leaves, on memory of any lengths.
 use Prim.Native.Nat.{ℕ, _%_, _≤_, _<_}
 use mathlib.Core.Path.{_≡_}
-use mathlib.Core.Bool.{true, false, _||_}
+use mathlib.Core.Bool.{true, false, _&&_, _||_}
 use mathlib.Core.Logic.{_⊎_}
 use mathlib.Core.List.{List}
 use lib.IntN.{ℤ, pos}
@@ -12,8 +12,9 @@ use Rattle.refusals.specs.declared.Answer.the-variants.{Accepted}
 use Rattle.refusals.specs.Refusals.{numberOf}
 use Rattle.table.specs.declared.reading.Reading.{Reading}
 use Rattle.table.specs.Modes.{isCascade}
+use Rattle.table.specs.Transfers.{majorIn}
 use Rattle.carried.specs.Layout.{fieldCount, numberCount, slotOf, numbersAt, recordAt, outOfRange}
-use Rattle.judging.specs.Judging.{badModes, badTimes, badLimits, badSetpoint, badTransfer}
+use Rattle.judging.specs.Judging.{badModes, badTimes, badLimits, badSetpoint, badMajor}
 use Rattle.engine.specs.Sensing.{pvIn}
 use Rattle.desk.specs.Desk.{Desk, lent, fittingOf, resetAnswer, resetLeft, storeAnswer, storeLeft, readingAt, sampleAnswer, sampleLeft, remainingOf, forecastAt, fieldsAnswer, fieldsLeft}
 use Rattle.desk.specs.Lists.{Call, answerTo}
@@ -50,7 +51,7 @@ pub record Rows (d : Desk) (k raw : ℕ) : Type 0 where
       ((r .settings .baddigit || r .program .baddigit) ≡ true → numberOf (sampleAnswer d k raw) ≡ 7)
       × ((r .settings .baddigit || r .program .baddigit) ≡ false → (Settled r → ⊥) → numberOf (sampleAnswer d k raw) ≡ 8)
       × (Settled r → r .settings .mode2 .input .scale < raw → numberOf (sampleAnswer d k raw) ≡ 9)
-      × (Settled r → raw ≤ r .settings .mode2 .input .scale → badTransfer (r .transfer) (pvIn r raw) ≡ true → numberOf (sampleAnswer d k raw) ≡ 11)
+      × (Settled r → raw ≤ r .settings .mode2 .input .scale → (r .transfer && badMajor (majorIn (d .words) k (r .settings .pointer)) (pvIn r raw)) ≡ true → numberOf (sampleAnswer d k raw) ≡ 11)
 
 pub record Called : Type 0 where
   -- N5: the lengths are 1,024 words and the records' numbers

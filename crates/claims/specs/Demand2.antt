@@ -4,12 +4,11 @@
 -- and its two output limits (Q9): loop 9 set up like loop 1 answers alike. And a record in range never leaves its ranges, whatever is called (E8).
 use Prim.Native.Nat.{ℕ, _+_, _≤_}
 use mathlib.Core.Path.{_≡_}
-use mathlib.Core.Bool.{true, false}
+use mathlib.Core.Bool.{Bool, true, false}
 use mathlib.Core.List.{List}
 use lib.IntN.{pos}
 use lib.ListN.{length, getD, set}
 use Rattle.refusals.specs.Refusals.{numberOf}
-use Rattle.table.specs.declared.transfer.Transfer.{Transfer}
 use Rattle.table.specs.Words.{baseOf, blockAt}
 use Rattle.table.specs.Modes.{isCascade}
 use Rattle.table.specs.Transfers.{majorOf}
@@ -21,18 +20,21 @@ use Rattle.kexbardi.specs.Interface.{lineLeft}
 use Rattle.claims.specs.Turns.{Turn, behindAll}
 use Rattle.claims.specs.Calls.{Settled}
 
--- A13: what a sample of loop k reads for a transfer, and its p
-abbrev pub transferAt : Desk → ℕ → Transfer
+-- A13: whether a sample of loop k is a transfer; the major loop, 0 where there is none; and p
+abbrev pub transferAt : Desk → ℕ → Bool
 transferAt d k = readingAt d k .transfer
+
+abbrev pub majorAt : Desk → ℕ → ℕ
+majorAt d k = majorOf k (readingAt d k .settings .pointer)
 
 abbrev pub pvAt : Desk → ℕ → ℕ → ℕ
 pvAt d k raw = pvIn (readingAt d k) raw
 
 -- N11: there is a major loop, and p is inside its output limits, words 24 and 25, as they are stored
 pub record ToMajor (d : Desk) (k raw : ℕ) : Type 0 where
-  pub major : transferAt d k .major ≡ 0 → ⊥
-  pub low : getD (d .words) (baseOf (transferAt d k .major) + 24) 0 ≤ pvAt d k raw
-  pub high : pvAt d k raw ≤ getD (d .words) (baseOf (transferAt d k .major) + 25) 0
+  pub major : majorAt d k ≡ 0 → ⊥
+  pub low : getD (d .words) (baseOf (majorAt d k) + 24) 0 ≤ pvAt d k raw
+  pub high : pvAt d k raw ≤ getD (d .words) (baseOf (majorAt d k) + 25) 0
 
 -- O3: no refusal holds: the memory has its lengths, there is such a loop, its record is in range, and what is read passes N7, N8, N9 and N11
 pub record Acceptable (d : Desk) (k raw : ℕ) : Type 0 where
@@ -41,7 +43,7 @@ pub record Acceptable (d : Desk) (k raw : ℕ) : Type 0 where
   pub carried : outOfRange (numbersAt (d .numbers) (slotOf k)) ≡ false
   pub reading : Settled (readingAt d k)
   pub below : raw ≤ readingAt d k .settings .mode2 .input .scale
-  pub transfer : transferAt d k .on ≡ true → ToMajor d k raw
+  pub transfer : transferAt d k ≡ true → ToMajor d k raw
 
 -- A12, A13: the address i is none of the eight words that a sample of loop k writes: 0, 2, 3, 4, 5, 6, 27 and 29; nor at a transfer the word pointed to
 pub record Other (d : Desk) (k i : ℕ) : Type 0 where
@@ -53,7 +55,7 @@ pub record Other (d : Desk) (k i : ℕ) : Type 0 where
   pub status : i ≡ baseOf k + 6 → ⊥
   pub flags : i ≡ baseOf k + 27 → ⊥
   pub fault : i ≡ baseOf k + 29 → ⊥
-  pub pointed : transferAt d k .on ≡ true → i ≡ readingAt d k .settings .pointer → ⊥
+  pub pointed : transferAt d k ≡ true → i ≡ readingAt d k .settings .pointer → ⊥
 
 -- A1 to A12: e holds what they give for a sample of loop k on d: the loop's eight words, and its record as numbers
 pub record Done (d e : Desk) (k raw : ℕ) : Type 0 where
@@ -78,8 +80,8 @@ pub record Agree (d d′ : Desk) (k k′ : ℕ) : Type 0 where
   pub pointed : isCascade (readingAt d k .mode) ≡ true
       → getD (d .words) (readingAt d k .settings .pointer) 0 ≡ getD (d′ .words) (readingAt d k .settings .pointer) 0
   pub table : readingAt d k .program .on ≡ true → blockAt (d .words) (tableOf (d .words) k) ≡ blockAt (d′ .words) (tableOf (d .words) k)
-  pub major : transferAt d k .on ≡ true → let pointer = readingAt d k .settings .pointer in majorOf k pointer ≡ majorOf k′ pointer
-  pub limits : transferAt d k .on ≡ true → let j = majorOf k (readingAt d k .settings .pointer) in
+  pub major : transferAt d k ≡ true → majorAt d k ≡ majorOf k′ (readingAt d k .settings .pointer)
+  pub limits : transferAt d k ≡ true → let j = majorAt d k in
       (j ≡ 0 → ⊥)
       → (getD (d .words) (baseOf j + 24) 0 ≡ getD (d′ .words) (baseOf j + 24) 0) × (getD (d .words) (baseOf j + 25) 0 ≡ getD (d′ .words) (baseOf j + 25) 0)
 
@@ -95,13 +97,13 @@ pub record Demand2 : Type 0 where
   pub exact : (d : Desk) (k raw : ℕ) → numberOf (sampleAnswer d k raw) ≡ 0 → Done d (sampleLeft d k raw) k raw
   pub line : (d : Desk) (k raw : ℕ) (line : List ℕ) → numberOf (sampleAnswer d k raw) ≡ 0 → lineLeft d k raw line ≡ lineOf (sampleLeft d k raw .words) k
   -- A13: at a transfer the word pointed to, which is the major loop's output, becomes p; and of its record number 13 becomes 1
-  pub handed : (d : Desk) (k raw : ℕ) → numberOf (sampleAnswer d k raw) ≡ 0 → transferAt d k .on ≡ true → let j = transferAt d k .major in
+  pub handed : (d : Desk) (k raw : ℕ) → numberOf (sampleAnswer d k raw) ≡ 0 → transferAt d k ≡ true → let j = majorAt d k in
       (readingAt d k .settings .pointer ≡ baseOf j + 5)
       × (getD (sampleLeft d k raw .words) (baseOf j + 5) 0 ≡ pvAt d k raw)
       × (numbersAt (sampleLeft d k raw .numbers) (slotOf j) ≡ set (numbersAt (d .numbers) (slotOf j)) 13 (pos 1))
   -- Q3: no other word, no other loop's record, and no length
   pub other-words : (d : Desk) (k raw i : ℕ) → Other d k i → getD (sampleLeft d k raw .words) i 0 ≡ getD (d .words) i 0
-  pub other-records : (d : Desk) (k raw j : ℕ) → 1 ≤ j → (j ≡ k → ⊥) → (transferAt d k .on ≡ true → j ≡ transferAt d k .major → ⊥)
+  pub other-records : (d : Desk) (k raw j : ℕ) → 1 ≤ j → (j ≡ k → ⊥) → (transferAt d k ≡ true → j ≡ majorAt d k → ⊥)
       → numbersAt (sampleLeft d k raw .numbers) (slotOf j) ≡ numbersAt (d .numbers) (slotOf j)
   pub lengths : (d : Desk) (k raw : ℕ)
       → (length (sampleLeft d k raw .words) ≡ length (d .words)) × (length (sampleLeft d k raw .numbers) ≡ length (d .numbers))
@@ -111,6 +113,6 @@ pub record Demand2 : Type 0 where
       × (blockAt (sampleLeft d k raw .words) (baseOf k) ≡ blockAt (sampleLeft d′ k′ raw .words) (baseOf k′))
       × (numbersAt (sampleLeft d k raw .numbers) (slotOf k) ≡ numbersAt (sampleLeft d′ k′ raw .numbers) (slotOf k′))
       × (lineLeft d k raw line ≡ lineLeft d′ k′ raw line)
-      × (transferAt d k ≡ transferAt d′ k′) × (pvAt d k raw ≡ pvAt d′ k′ raw)
+      × (transferAt d k ≡ transferAt d′ k′) × (transferAt d k ≡ true → majorAt d k ≡ majorAt d′ k′) × (pvAt d k raw ≡ pvAt d′ k′ raw)
   -- E8: the ranges are never left
   pub ranges : (d : Desk) (ts : List Turn) (k : ℕ) → 1 ≤ k → k ≤ 16 → InRange k d → InRange k (behindAll d ts)

@@ -15,8 +15,9 @@ use Rattle.refusals.specs.Refusals.{numberOf}
 use Rattle.reader.specs.declared.Record.{Record}
 use Rattle.reader.specs.declared.Record.the-variants.{Store, Sample, Refused}
 use Rattle.reader.specs.File.{wordAt}
-use Rattle.table.specs.declared.transfer.Transfer.{Transfer}
+use Rattle.table.specs.declared.reading.Reading.{Reading}
 use Rattle.table.specs.Words.{baseOf, blockAt}
+use Rattle.table.specs.Transfers.{majorOf}
 use Rattle.table.specs.Reading.{tableOf, readingOf}
 use Rattle.profile.specs.Forecasts.{forecastOf}
 use Rattle.carried.specs.declared.record.Carried.{Carried}
@@ -64,8 +65,8 @@ pub record OfPlains (qs : Plains) (d : Desk) : Type 0 where
       → fed qs d (sample k raw) k ≡ plainAfter (qs k) (readingOf (d .words) k (qs k .state .mode) (qs k .state .profile .segment)) raw
   -- an accepted sample of another loop marks it by a transfer, which that loop's own plain loop tells; else it stays
   pub other : (j k raw : ℕ) → (j ≡ k → ⊥) → answerTo d (sample j raw) ≡ Accepted
-      → let t = readingOf (d .words) j (qs j .state .mode) (qs j .state .profile .segment) .transfer in
-      fed qs d (sample j raw) k ≡ cond (marks t k) (plainMarked (qs k)) (qs k)
+      → let r = readingOf (d .words) j (qs j .state .mode) (qs j .state .profile .segment) in
+      fed qs d (sample j raw) k ≡ cond (marks j r k) (plainMarked (qs k)) (qs k)
   pub stored : (address value : ℕ) → fed qs d (store address value) ≡ qs
   pub anew : answerTo d reset ≡ Accepted → fed qs d reset ≡ begunAll (resetLeft d .numbers)
   pub none : plainsBehind qs d [] ≡ qs
@@ -84,7 +85,7 @@ pub record Names : Type 0 where
   -- A13: a plain loop is marked, and nothing else of it changes; a transfer marks its major loop
   pub marked : (q : Plain) → let s = q .state in
       plainMarked q ≡ record { state = record { mode = s .mode; velocity = s .velocity; profile = s .profile; mark = true }; last = q .last; B = q .B; n = q .n; output = q .output }
-  pub whom : (t : Transfer) (j : ℕ) → marks t j ≡ (t .on && eqb (t .major) j)
+  pub whom : (k : ℕ) (r : Reading) (j : ℕ) → marks k r j ≡ (r .transfer && eqb (majorOf k (r .settings .pointer)) j)
   -- Q3: a sample: what it reads, what it comes to, and what is shown of it
   pub reads : (d : Desk) (k : ℕ) → let state = recordAt (d .numbers) k .state in readingAt d k ≡ readingOf (d .words) k (state .mode) (state .profile .segment)
   pub steps : (d : Desk) (k raw : ℕ) → stepAt d k raw ≡ stepOf (readingAt d k) (recordAt (d .numbers) k) raw

@@ -14,7 +14,7 @@ use Rattle.carried.specs.declared.record.State.{State}
 use Rattle.carried.specs.Layout.{recordAt, marked}
 use Rattle.engine.specs.Sensing.{changed, sensedOf}
 use Rattle.desk.specs.Desk.{Desk, readingAt, stepAt, sampleAnswer, sampleLeft}
-use Rattle.claims.specs.Demand2.{transferAt, pvAt}
+use Rattle.claims.specs.Demand2.{transferAt, majorAt, pvAt}
 
 -- A13: the carried mode, the sample's mode, and bit 3 of mode 1
 pub record Bumpless (d : Desk) (k : ℕ) : Type 0 where
@@ -24,21 +24,20 @@ pub record Bumpless (d : Desk) (k : ℕ) : Type 0 where
 
 pub record Transferred : Type 0 where
   -- a transfer is a change from Automatic to Cascade with Bumpless I, and nothing else is
-  pub is : (d : Desk) (k : ℕ) → Bumpless d k → transferAt d k .on ≡ true
-  pub only : (d : Desk) (k : ℕ) → transferAt d k .on ≡ true → Bumpless d k
+  pub is : (d : Desk) (k : ℕ) → Bumpless d k → transferAt d k ≡ true
+  pub only : (d : Desk) (k : ℕ) → transferAt d k ≡ true → Bumpless d k
   -- N11: its major loop is the other loop of the sixteen whose output word has the address in word 26; without one it is 0
-  pub major : (d : Desk) (k : ℕ) → transferAt d k .on ≡ true → transferAt d k .major ≡ majorOf k (readingAt d k .settings .pointer)
   pub found : (k j : ℕ) → 1 ≤ j → j ≤ 16 → (j ≡ k → ⊥) → majorOf k (baseOf j + 5) ≡ j
   pub none : (k pointer : ℕ) → ((j : ℕ) → 1 ≤ j → j ≤ 16 → (j ≡ k → ⊥) → pointer ≡ baseOf j + 5 → ⊥) → majorOf k pointer ≡ 0
   -- E2: an accepted one leaves the major loop's output word inside the output limits that are stored for that loop
-  pub inside : (d : Desk) (k raw : ℕ) → numberOf (sampleAnswer d k raw) ≡ 0 → transferAt d k .on ≡ true → let base = baseOf (transferAt d k .major) in
+  pub inside : (d : Desk) (k raw : ℕ) → numberOf (sampleAnswer d k raw) ≡ 0 → transferAt d k ≡ true → let base = baseOf (majorAt d k) in
       (getD (d .words) (base + 24) 0 ≤ getD (sampleLeft d k raw .words) (base + 5) 0)
       × (getD (sampleLeft d k raw .words) (base + 5) 0 ≤ getD (d .words) (base + 25) 0)
   -- A13: the minor loop's setpoint and PV are both p
-  pub settles : (d : Desk) (k raw : ℕ) → transferAt d k .on ≡ true
+  pub settles : (d : Desk) (k raw : ℕ) → transferAt d k ≡ true
       → (stepAt d k raw .written .setpoint ≡ pvAt d k raw) × (stepAt d k raw .written .pv ≡ pvAt d k raw)
   -- it is an entry of the minor loop only by a change of form, or a mark of its own
-  pub enters : (d : Desk) (k raw : ℕ) → transferAt d k .on ≡ true → let state = recordAt (d .numbers) k .state in
+  pub enters : (d : Desk) (k raw : ℕ) → transferAt d k ≡ true → let state = recordAt (d .numbers) k .state in
       let r = readingAt d k in
       changed state (r .settings .mode1 .velocity) ≡ false → state .mark ≡ false → sensedOf r state raw .entry ≡ false
   -- A4, A11: with a mark a sample outside Manual is an entry and takes it off; one in Manual is none and keeps it

@@ -57,11 +57,11 @@ module _ (d : Desk) (qs : Plains) (tied : TiedAll (d .numbers) qs) where
 
   -- one of another loop leaves the record of loop k, or marks it as it marks its plain loop
   other : (j raw k : ℕ) → 1 ≤ k → k ≤ 16 → (j ≡ k → ⊥) → Sampled d j raw
-      → Tied (recordAt (sampleDone d j raw .numbers) k) (cond (marks (readBy qs d j .transfer) k) (plainMarked (qs k)) (qs k))
+      → Tied (recordAt (sampleDone d j raw .numbers) k) (cond (marks j (readBy qs d j) k) (plainMarked (qs k)) (qs k))
   other j raw k above below ne s =
       let same : readingAt d j ≡ readBy qs d j
       = ap (λ (state : State). readingOf (d .words) j (state .mode) (state .profile .segment)) (tied j (s .above) (s .below) .state) in
-      rw (other-record d j raw s k above (λ e. ne (sym e)) below, ← same) (go (marks (readingAt d j .transfer) k))
+      rw (other-record d j raw s k above (λ e. ne (sym e)) below, ← same) (go (marks j (readingAt d j) k))
     where
       go : (b : Bool) → Tied (cond b (markedRecord (recordAt (d .numbers) k)) (recordAt (d .numbers) k)) (cond b (plainMarked (qs k)) (qs k))
       go true = mark-tied (tied k above below)

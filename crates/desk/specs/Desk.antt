@@ -11,9 +11,9 @@ use Rattle.refusals.specs.declared.Refusal.the-variants.{Loop as NoLoop}
 use Rattle.refusals.specs.declared.Answer.{Answer}
 use Rattle.refusals.specs.declared.Answer.the-variants.{Accepted, Refused}
 use Rattle.refusals.specs.Refusals.{Case, _⇒_, firstOf}
-use Rattle.table.specs.declared.transfer.Transfer.{Transfer}
 use Rattle.table.specs.declared.reading.Reading.{Reading}
 use Rattle.table.specs.Words.{any, baseOf, blockAt}
+use Rattle.table.specs.Transfers.{majorOf, majorIn}
 use Rattle.table.specs.Reading.{tableOf, readingOf}
 use Rattle.profile.specs.Forecasts.{forecastOf}
 use Rattle.carried.specs.declared.record.Carried.{Carried}
@@ -110,33 +110,34 @@ readingBy ws k c = readingOf ws k (c .state .mode) (c .state .profile .segment)
 abbrev pub readingAt : Desk → ℕ → Reading
 readingAt d k = readingBy (d .words) k (recordAt (d .numbers) k)
 
--- O3: N7, N8 and N9, and N11 with p of A1
-abbrev pub judgedCases : Reading → ℕ → List Case
-judgedCases r raw = readingCases r raw ++ transferCases (r .transfer) (pvIn r raw)
+-- O3: N7, N8 and N9 of a sample of loop k, and N11 with p of A1
+abbrev pub judgedCases : List ℕ → ℕ → Reading → ℕ → List Case
+judgedCases ws k r raw = readingCases r raw ++ transferCases (r .transfer) (majorIn ws k (r .settings .pointer)) (pvIn r raw)
 
 -- O3: N5, N4, N5, N7, N8, N9 and N11, one list in this order
 abbrev pub sampleCases : Desk → ℕ → ℕ → List Case
-sampleCases d k raw = memoryCases d ++ (loopCases (d .numbers) k ++ judgedCases (readingAt d k) raw)
+sampleCases d k raw = memoryCases d ++ (loopCases (d .numbers) k ++ judgedCases (d .words) k (readingAt d k) raw)
 
 -- A1 to A12: what the sample comes to, if it is accepted
 abbrev pub stepAt : Desk → ℕ → ℕ → Stepped
 stepAt d k raw = stepOf (readingAt d k) (recordAt (d .numbers) k) raw
 
 -- A13: at a transfer p becomes the major loop's output word, and that loop is marked
-unfoldable pub transferLeft : Transfer → ℕ → Desk → Desk
-transferLeft t p d = cond (t .on) (lent (set (d .words) (baseOf (t .major) + 5) p) (markedAt (d .numbers) (t .major))) d
+unfoldable pub transferLeft : Bool → ℕ → ℕ → Desk → Desk
+transferLeft transfer major p d = cond transfer (lent (set (d .words) (baseOf major + 5) p) (markedAt (d .numbers) major)) d
 
--- A13: a transfer to loop j
-abbrev pub marks : Transfer → ℕ → Bool
-marks t j = t .on && eqb (t .major) j
+-- A13: a sample of loop k is a transfer to loop j
+abbrev pub marks : ℕ → Reading → ℕ → Bool
+marks k r j = r .transfer && eqb (majorOf k (r .settings .pointer)) j
 
 -- Q3: the loop's words (A12) and its record are written, at a transfer the major loop's word and mark, and nothing else
-unfoldable pub doneBy : Desk → ℕ → Transfer → Stepped → Desk
-doneBy d k t s =
-    transferLeft t (s .written .pv) (lent (writtenTo (d .words) (baseOf k) (s .written)) (sets (d .numbers) (slotOf k) (numbersOf (s .carried))))
+unfoldable pub doneBy : Desk → ℕ → Reading → Stepped → Desk
+doneBy d k r s =
+    transferLeft (r .transfer) (majorOf k (r .settings .pointer)) (s .written .pv)
+    (lent (writtenTo (d .words) (baseOf k) (s .written)) (sets (d .numbers) (slotOf k) (numbersOf (s .carried))))
 
 abbrev pub sampleDone : Desk → ℕ → ℕ → Desk
-sampleDone d k raw = doneBy d k (readingAt d k .transfer) (stepAt d k raw)
+sampleDone d k raw = doneBy d k (readingAt d k) (stepAt d k raw)
 
 -- Q3: the first refusal that holds, or none
 unfoldable pub sampleAnswer : Desk → ℕ → ℕ → Answer
@@ -148,7 +149,7 @@ sampleLeft d k raw = leftBy (sampleAnswer d k raw) (sampleDone d k raw) d
 
 -- the same past N5, N4 and N5, for a loop that there is, with a record in range
 abbrev pub judgedAnswer : Desk → ℕ → ℕ → Answer
-judgedAnswer d k raw = firstOf (judgedCases (readingAt d k) raw)
+judgedAnswer d k raw = firstOf (judgedCases (d .words) k (readingAt d k) raw)
 
 abbrev pub judgedLeft : Desk → ℕ → ℕ → Desk
 judgedLeft d k raw = leftBy (judgedAnswer d k raw) (sampleDone d k raw) d
@@ -172,7 +173,7 @@ forecastAt d k = countedBy (sampleAnswer d k 0) (remainingOf (d .words) k (recor
 
 -- the same past N5, N4 and N5
 unfoldable pub foretoldOf : List ℕ → ℕ → Carried → Foretold
-foretoldOf ws k c = countedBy (firstOf (judgedCases (readingBy ws k c) 0)) (remainingOf ws k c)
+foretoldOf ws k c = countedBy (firstOf (judgedCases ws k (readingBy ws k c) 0)) (remainingOf ws k c)
 
 -- ---- what is shown of a loop
 

@@ -57,7 +57,7 @@ readBy qs d j = readingOf (d .words) j (qs j .state .mode) (qs j .state .profile
 unfoldable pub sampledAll : Plains → Desk → ℕ → ℕ → Plains
 sampledAll qs d j raw k =
     let r = readBy qs d j in
-    cond (eqb j k) (plainAfter (qs k) r raw) (cond (marks (r .transfer) k) (plainMarked (qs k)) (qs k))
+    cond (eqb j k) (plainAfter (qs k) r raw) (cond (marks j r k) (plainMarked (qs k)) (qs k))
 
 -- E3: an accepted reset begins all of them anew; what is refused, and a store, leaves them
 abbrev pub fedBy : Plains → Desk → Answer → Call → Plains

@@ -1,8 +1,8 @@
 // Q11: the forecast of a loop's profile (G12): refused as a sample with raw PV 0 is, else the samples that remain.
 use crate::finding::Found;
 use crate::finding::find_loop;
+use crate::sampling::no_transfer;
 use carried::Carried;
-use judging::bad_transfer;
 use judging::judge;
 use profile::Profile;
 use refusals::Answer;
@@ -53,7 +53,7 @@ fn foretell(words: &[u16], carried: Carried, number: u8) -> Foretold
     match answer {
         Answer::Refused(why) => Foretold::Refused(why),
         Answer::Accepted => {
-            if bad_transfer(reading.transfer, 0) {
+            if no_transfer(words, number, reading, 0) {
                 return Foretold::Refused(Refusal::Transfer);
             }
             Foretold::Samples(remaining(

@@ -8,57 +8,70 @@ use carried::put_mark;
 use carried::put_numbers;
 use carried::slot_of;
 use engine::Stepped;
+use engine::pv_in;
 use engine::write_words;
-use judging::bad_transfer;
+use judging::bad_major;
 use judging::judge;
 use refusals::Answer;
 use refusals::Refusal;
 use table::OUTPUT;
-use table::Transfer;
+use table::Reading;
 use table::base_of;
+use table::major_of;
 use table::read_loop;
+use table::read_major;
 ghost use mathlib.Core.Path.{_≡_};
+ghost use mathlib.Core.Bool.{_&&_};
 ghost use Prim.Native.Nat.{_≤_};
 ghost use lib.ListN.{length};
-ghost use Rattle.refusals.specs.Refusals.{firstOf};
+ghost use Rattle.table.specs.Transfers.{majorIn};
 ghost use Rattle.carried.specs.Layout.{numberCount, recordAt};
 ghost use Rattle.carried.specs.Ranged.{Ranged};
-ghost use Rattle.judging.specs.Judging.{transferCases};
-ghost use Rattle.desk.specs.Desk.{lent, leftBy, transferLeft, doneBy, judgedAnswer, judgedLeft, sampleAnswer, sampleLeft};
+ghost use Rattle.judging.specs.Judging.{badMajor};
+ghost use Rattle.engine.specs.Sensing.{pvIn};
+ghost use Rattle.desk.specs.Desk.{lent, transferLeft, doneBy, judgedAnswer, judgedLeft, sampleAnswer, sampleLeft};
 
-// A13: at a transfer, the PV into the major loop's output word, and the mark into its record.
-fn hand_over(words: &mut [u16], numbers: &mut [i64], t: Transfer, pv: u16)
-    requires { ⌜ (length (now words) ≡ 1024) × (length (now numbers) ≡ numberCount) × (t .major ≤ 16) ⌝ }
-    ensures { λ _. ⌜ lent (now (words .exit)) (now (numbers .exit)) ≡ transferLeft t pv (lent (now (words .entry)) (now (numbers .entry))) ⌝ }
+// N11: a transfer without a major loop, or with a PV outside that loop's output limits.
+pub(crate) fn no_transfer(words: &[u16], number: u8, reading: Reading, raw: u16) -> bool
+    ensures { λ r. ⌜ r ≡ (reading .transfer && badMajor (majorIn (now (words .entry)) number (reading .settings .pointer)) (pvIn reading raw)) ⌝ }
 {
-    if t.on {
-        let at = base_of(t.major) + OUTPUT;
-        words[at] = pv;
-        put_mark(numbers, t.major);
+    if reading.transfer {
+        let major = read_major(words, number, reading.settings.pointer);
+        bad_major(major, pv_in(reading, raw))
+    } else {
+        false
     }
 }
 
-// N11, now that the PV is known; else what the sample comes to, written.
+// A13: at a transfer, the PV into the major loop's output word, and the mark into its record.
+fn hand_over(words: &mut [u16], numbers: &mut [i64], transfer: bool, major: u8, pv: u16)
+    requires { ⌜ (length (now words) ≡ 1024) × (length (now numbers) ≡ numberCount) × (major ≤ 16) ⌝ }
+    ensures { λ _. ⌜ lent (now (words .exit)) (now (numbers .exit)) ≡ transferLeft transfer major pv (lent (now (words .entry)) (now (numbers .entry))) ⌝ }
+{
+    if transfer {
+        let at = base_of(major) + OUTPUT;
+        words[at] = pv;
+        put_mark(numbers, major);
+    }
+}
+
+// What an accepted sample comes to, written.
 fn write_back(
     words: &mut [u16],
     numbers: &mut [i64],
     number: u8,
-    t: Transfer,
+    reading: Reading,
     done: Stepped,
-) -> Answer
-    requires { ⌜ (length (now words) ≡ 1024) × (length (now numbers) ≡ numberCount) × (number ≤ 16) × (t .major ≤ 16) ⌝ }
-    ensures answer { λ r. ⌜ r ≡ firstOf (transferCases t (done .written .pv)) ⌝ }
-    ensures left { λ r. ⌜ lent (now (words .exit)) (now (numbers .exit)) ≡ leftBy r (doneBy (lent (now (words .entry)) (now (numbers .entry))) number t done) (lent (now (words .entry)) (now (numbers .entry))) ⌝ }
+)
+    requires { ⌜ (length (now words) ≡ 1024) × (length (now numbers) ≡ numberCount) × (number ≤ 16) ⌝ }
+    ensures { λ _. ⌜ lent (now (words .exit)) (now (numbers .exit)) ≡ doneBy (lent (now (words .entry)) (now (numbers .entry))) number reading done ⌝ }
 {
     let written = done.written;
     let next = done.carried;
-    if bad_transfer(t, written.pv) {
-        return Answer::Refused(Refusal::Transfer);
-    }
+    let major = major_of(number, reading.settings.pointer);
     write_words(words, number, written);
     put_numbers(numbers, slot_of(number), numbers_of(next));
-    hand_over(words, numbers, t, written.pv);
-    Answer::Accepted
+    hand_over(words, numbers, reading.transfer, major, written.pv);
 }
 
 // Past N4 and N5: a sample of a loop that there is, with its record, which is in range.
@@ -81,8 +94,13 @@ fn carry_out(
     match answer {
         Answer::Refused(why) => Answer::Refused(why),
         Answer::Accepted => {
-            let done = engine::step(reading, carried, raw as u16);
-            write_back(words, numbers, number, reading.transfer, done)
+            let raw = raw as u16;
+            if no_transfer(words, number, reading, raw) {
+                return Answer::Refused(Refusal::Transfer);
+            }
+            let done = engine::step(reading, carried, raw);
+            write_back(words, numbers, number, reading, done);
+            Answer::Accepted
         }
     }
 }

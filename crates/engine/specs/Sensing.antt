@@ -46,7 +46,7 @@ runsOn program q = program .on && not (eqb (q .segment) 0)
 -- A13: at a transfer the setpoint becomes p. A4: and at an entry to Automatic with Bumpless I, by such a change, unless a profile runs (G11)
 unfoldable pub targetOf : Reading → Bool → Bool → ℕ → ℕ
 targetOf r change runs p =
-    cond (r .transfer .on || (change && isAutomatic (r .mode) && not (r .settings .mode1 .bumpless) && not runs)) p (setpointOf r)
+    cond (r .transfer || (change && isAutomatic (r .mode) && not (r .settings .mode1 .bumpless) && not runs)) p (setpointOf r)
 
 -- G3: the profile, its setpoint and word 27 after the sample; in Cascade they wait
 unfoldable pub profiledOf : Reading → Profile → ℕ → ℕ → Profiled

@@ -5,6 +5,7 @@ mod stepping;
 mod writing;
 
 pub use sensing::Sensed;
+pub use sensing::pv_in;
 pub use stepping::Stepped;
 pub use stepping::step;
 pub use writing::Written;

@@ -13,7 +13,7 @@ use table::is_manual;
 ghost use mathlib.Core.Path.{_≡_};
 ghost use mathlib.Core.Bool.{_&&_};
 ghost use Prim.Native.Nat.{_≤_, _<_};
-ghost use Rattle.engine.specs.Sensing.{pvOf, setpointOf, changed, entering, runsOn, targetOf, profiledOf, faultAfter, errorIn, sensedOf};
+ghost use Rattle.engine.specs.Sensing.{pvOf, pvIn, setpointOf, changed, entering, runsOn, targetOf, profiledOf, faultAfter, errorIn, sensedOf};
 ghost use Rattle.table.specs.Modes.{isManual};
 ghost use Rattle.profile.specs.Moves.Laws.{Within};
 
@@ -38,6 +38,14 @@ fn measured(root: bool, scale: u16, raw: u16) -> u16
     } else {
         raw
     }
+}
+
+// A1 with the loop's settings.
+pub fn pv_in(reading: Reading, raw: u16) -> u16
+    ensures { λ r. ⌜ r ≡ pvIn reading raw ⌝ }
+{
+    let s = reading.settings;
+    measured(s.mode1.root, s.mode2.input.scale, raw)
 }
 
 // A3: the setpoint.
@@ -93,7 +101,7 @@ fn target_of(reading: Reading, change: bool, runs: bool, pv: u16) -> u16
 {
     let mode = reading.mode;
     let automatic = is_automatic(mode);
-    if reading.transfer.on | (change & automatic & !reading.settings.mode1.bumpless & !runs) {
+    if reading.transfer | (change & automatic & !reading.settings.mode1.bumpless & !runs) {
         pv
     } else {
         own_setpoint(reading)
@@ -162,7 +170,7 @@ pub(crate) fn sensed_by(reading: Reading, state: State, raw: u16) -> Sensed
 {
     let s = reading.settings;
     let mode = reading.mode;
-    let pv = measured(s.mode1.root, s.mode2.input.scale, raw);
+    let pv = pv_in(reading, raw);
     let entry = enters(state, mode, s.mode1.velocity);
     let change = changes(state, s.mode1.velocity);
     let program = reading.program;

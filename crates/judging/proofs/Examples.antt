@@ -9,7 +9,7 @@ use Rattle.table.specs.declared.mode.Mode.the-variants.{Manual}
 use Rattle.table.specs.Words.{bcd, badDigit}
 use Rattle.table.specs.Settings.{mode2Of, badDigits, tuningOf, settingsOf}
 use Rattle.table.specs.Programs.{faultOf, pairAt, anyBelow, badDigitIn, highEndIn, noProgram, programOf}
-use Rattle.table.specs.Transfers.{transfers, majorOf, limitsAt, transferOf}
+use Rattle.table.specs.Transfers.{transfers}
 use Rattle.table.specs.Reading.{modeAfter, remoteOf, readingOf}
 use Rattle.judging.specs.Judging.{readingCases}
 
@@ -97,5 +97,5 @@ pub answer : Case → ℕ
 answer c = numberOf (firstOf (readingCases (readingOf (c .write worked) 1 Manual 0) (c .raw)))
 
 pub computed : map answer (cases ++ tables) ≡ map (λ (c : Case). c .number) (cases ++ tables)
-unfolding faultOf pairAt anyBelow badDigitIn highEndIn noProgram programOf table tables bcd badDigit mode2Of badDigits tuningOf settingsOf modeAfter remoteOf transfers majorOf limitsAt transferOf readingOf worked case word cases answer
+unfolding faultOf pairAt anyBelow badDigitIn highEndIn noProgram programOf table tables bcd badDigit mode2Of badDigits tuningOf settingsOf modeAfter remoteOf transfers readingOf worked case word cases answer
 computed = refl

@@ -10,7 +10,7 @@ use Rattle.refusals.specs.Refusals.{Case, _⇒_}
 use Rattle.table.specs.declared.settings.Mode1.{Mode1}
 use Rattle.table.specs.declared.settings.Tuning.{Tuning}
 use Rattle.table.specs.declared.settings.OutputLimits.{OutputLimits}
-use Rattle.table.specs.declared.transfer.Transfer.{Transfer}
+use Rattle.table.specs.declared.transfer.Major.{Major}
 use Rattle.table.specs.declared.reading.Reading.{Reading}
 use Rattle.table.specs.Modes.{isCascade}
 pub mod Laws
@@ -49,13 +49,13 @@ readingCases r raw =
     ∷ (ltb scale raw ⇒ Above)
     ∷ []
 
--- N11: a transfer to no major loop, or with p outside that loop's output limits
-abbrev pub badTransfer : Transfer → ℕ → Bool
-badTransfer t p = t .on && (eqb (t .major) 0 || ltb p (t .limits .low) || ltb (t .limits .high) p)
+-- N11: there is no major loop, or p is outside that loop's output limits
+abbrev pub badMajor : Major → ℕ → Bool
+badMajor m p = eqb (m .number) 0 || ltb p (m .limits .low) || ltb (m .limits .high) p
 
--- O3: N11, behind the others
-abbrev pub transferCases : Transfer → ℕ → List Case
-transferCases t p = (badTransfer t p ⇒ NoTransfer) ∷ []
+-- O3: N11, of a transfer alone, behind the others
+abbrev pub transferCases : Bool → Major → ℕ → List Case
+transferCases transfer m p = (transfer && badMajor m p ⇒ NoTransfer) ∷ []
 
 -- O3: none of readingCases holds
 pub record Passed (r : Reading) (raw : ℕ) : Type 0 where

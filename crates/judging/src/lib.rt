@@ -2,16 +2,16 @@
 use refusals::Answer;
 use refusals::Refusal;
 use table::Mode1;
+use table::Major;
 use table::OutputLimits;
 use table::Reading;
-use table::Transfer;
 use table::Tuning;
 use table::WORDS;
 use table::is_cascade;
 ghost use mathlib.Core.Path.{_≡_};
 ghost use lib.Dec.{ltb};
 ghost use Rattle.refusals.specs.Refusals.{firstOf};
-ghost use Rattle.judging.specs.Judging.{badModes, badTimes, badLimits, badSetpoint, readingCases, badTransfer};
+ghost use Rattle.judging.specs.Judging.{badModes, badTimes, badLimits, badSetpoint, readingCases, badMajor};
 
 const LEAST_PERIOD: u16 = 5; // 0.05 s
 
@@ -90,9 +90,9 @@ pub fn judge(reading: Reading, raw: u64) -> Answer
     Answer::Accepted
 }
 
-// N11: a transfer without a major loop, or with a PV outside that loop's output limits.
-pub fn bad_transfer(t: Transfer, pv: u16) -> bool
-    ensures { λ r. ⌜ r ≡ badTransfer t pv ⌝ }
+// N11: no major loop, or a PV outside that loop's output limits.
+pub fn bad_major(m: Major, pv: u16) -> bool
+    ensures { λ r. ⌜ r ≡ badMajor m pv ⌝ }
 {
-    t.on & ((t.major == 0) | (pv < t.limits.low) | (t.limits.high < pv))
+    (m.number == 0) | (pv < m.limits.low) | (m.limits.high < pv)
 }

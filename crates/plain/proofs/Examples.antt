@@ -12,7 +12,7 @@ use Rattle.numbers.specs.Fractions.{Fraction, over, whole, _+ᶠ_, negᶠ, lt�
 use Rattle.table.specs.Words.{bcd, badDigit}
 use Rattle.table.specs.Settings.{mode2Of, badDigits, tuningOf, settingsOf}
 use Rattle.table.specs.Programs.{faultOf, pairAt, anyBelow, badDigitIn, highEndIn, noProgram, programOf}
-use Rattle.table.specs.Transfers.{transfers, majorOf, limitsAt, transferOf}
+use Rattle.table.specs.Transfers.{transfers}
 use Rattle.table.specs.Reading.{modeAfter, remoteOf, readingOf}
 use Rattle.control.specs.Errors.{squaredOver, errorOf}
 use Rattle.control.specs.Terms.{exactP, exactI, exactD, exactTerms, termsOf}
@@ -133,5 +133,5 @@ cascaded =
     ∷ []
 
 pub computed : map from-reset (loopA ∷ counting ∷ entered ∷ cascaded ∷ []) ≡ map (map expected) (loopA ∷ counting ∷ entered ∷ cascaded ∷ [])
-unfolding faultOf pairAt anyBelow badDigitIn highEndIn programOf commandOf withHold handedOver joggedOf toward rampedTo rampedBy soakedBy profileMoved workedBy advancedBy deviates flagsOf runsOn profiledOf sampledBy noProgram faultAfter clampBy halfUp halfAway rootWithin rootOf over _+ᶠ_ negᶠ ltᶠ roundTo bcd badDigit modeAfter mode2Of badDigits tuningOf settingsOf remoteOf transfers majorOf limitsAt transferOf readingOf squaredOver errorOf exactP exactI exactD exactTerms termsOf outsideOf positionOf velocityOf apart levelsOf statusOf resetRecord pvOf setpointOf changed entering heldOf startOf targetOf errorIn sensedOf pastOf positionInputs velocityInputs termsIn movedPosition movedVelocity movedOf drivenOf outputWord biasWord statusWord writtenOf nextOf stepOf writtenTo exactSum exactOutput exactBias begun countAfter movedBy plainAfter same rows expected from-reset counts kept worked loopA mode counting settled entered followed cascaded
+unfolding faultOf pairAt anyBelow badDigitIn highEndIn programOf commandOf withHold handedOver joggedOf toward rampedTo rampedBy soakedBy profileMoved workedBy advancedBy deviates flagsOf runsOn profiledOf sampledBy noProgram faultAfter clampBy halfUp halfAway rootWithin rootOf over _+ᶠ_ negᶠ ltᶠ roundTo bcd badDigit modeAfter mode2Of badDigits tuningOf settingsOf remoteOf transfers readingOf squaredOver errorOf exactP exactI exactD exactTerms termsOf outsideOf positionOf velocityOf apart levelsOf statusOf resetRecord pvOf setpointOf changed entering heldOf startOf targetOf errorIn sensedOf pastOf positionInputs velocityInputs termsIn movedPosition movedVelocity movedOf drivenOf outputWord biasWord statusWord writtenOf nextOf stepOf writtenTo exactSum exactOutput exactBias begun countAfter movedBy plainAfter same rows expected from-reset counts kept worked loopA mode counting settled entered followed cascaded
 computed = refl

@@ -11,7 +11,7 @@ use Rattle.reader.specs.File.{recordAt, positionsWithin, positionsFrom, records
 use Rattle.table.specs.Words.{bcd, badDigit}
 use Rattle.table.specs.Settings.{mode2Of, badDigits, tuningOf, settingsOf}
 use Rattle.table.specs.Programs.{faultOf, pairAt, anyBelow, badDigitIn, highEndIn, noProgram, programOf}
-use Rattle.table.specs.Transfers.{transfers, majorOf, limitsAt, transferOf}
+use Rattle.table.specs.Transfers.{transfers, majorOf, limitsAt, majorIn}
 use Rattle.table.specs.Reading.{modeAfter, remoteOf, readingOf}
 use Rattle.control.specs.Errors.{squaredOver, errorOf}
 use Rattle.control.specs.Terms.{exactP, exactI, exactD, exactTerms, termsOf}
@@ -52,5 +52,5 @@ text =
     ++ bytes "10 refused 4\n10 records, 1 refused\n"
 
 pub worked : printedOf file ≡ text
-unfolding faultOf pairAt anyBelow badDigitIn highEndIn programOf commandOf withHold handedOver joggedOf toward rampedTo rampedBy soakedBy movedBy workedBy advancedBy deviates flagsOf runsOn profiledOf sampledBy noProgram faultAfter profileFrom clampBy halfUp halfAway rootWithin rootOf over negᶠ roundTo digitsWithin decimalOf recordAt positionsWithin positionsFrom recordsFrom bcd badDigit modeAfter mode2Of badDigits tuningOf settingsOf remoteOf transfers majorOf limitsAt transferOf readingOf squaredOver errorOf exactP exactI exactD exactTerms termsOf outsideOf positionOf velocityOf apart levelsOf statusOf resetRecord pvOf setpointOf changed entering heldOf startOf targetOf errorIn sensedOf pastOf positionInputs velocityInputs termsIn movedPosition movedVelocity movedOf drivenOf outputWord biasWord statusWord writtenOf nextOf stepOf writtenTo outOfRange numbersOf recordFrom flatten fittingOf noLoop resetDesk resetAnswer resetLeft storeAnswer storeLeft transferLeft doneBy sampleAnswer sampleLeft answerTo deskAfter lineText lastText linesOf printedOf file text
+unfolding faultOf pairAt anyBelow badDigitIn highEndIn programOf commandOf withHold handedOver joggedOf toward rampedTo rampedBy soakedBy movedBy workedBy advancedBy deviates flagsOf runsOn profiledOf sampledBy noProgram faultAfter profileFrom clampBy halfUp halfAway rootWithin rootOf over negᶠ roundTo digitsWithin decimalOf recordAt positionsWithin positionsFrom recordsFrom bcd badDigit modeAfter mode2Of badDigits tuningOf settingsOf remoteOf transfers majorOf limitsAt majorIn readingOf squaredOver errorOf exactP exactI exactD exactTerms termsOf outsideOf positionOf velocityOf apart levelsOf statusOf resetRecord pvOf setpointOf changed entering heldOf startOf targetOf errorIn sensedOf pastOf positionInputs velocityInputs termsIn movedPosition movedVelocity movedOf drivenOf outputWord biasWord statusWord writtenOf nextOf stepOf writtenTo outOfRange numbersOf recordFrom flatten fittingOf noLoop resetDesk resetAnswer resetLeft storeAnswer storeLeft transferLeft doneBy sampleAnswer sampleLeft answerTo deskAfter lineText lastText linesOf printedOf file text
 worked = refl

@@ -1,5 +1,5 @@
--- All that a sample reads of the words: the loop's settings (W2), the mode after the requests (A2), in Cascade the word pointed to (A3), at a
--- transfer the major loop's output limits (A13), and the ramp/soak program (G1).
+-- All that a sample reads of the words: the loop's settings (W2), the mode after the requests (A2), in Cascade the word pointed to (A3), whether
+-- it is a transfer (A13), and the ramp/soak program (G1). What a transfer reads besides is `majorIn`'s.
 use Prim.Native.Nat.{ℕ, _+_}
 use mathlib.Core.Bool.{cond}
 use mathlib.Core.List.{List}
@@ -11,7 +11,7 @@ use Rattle.table.specs.declared.reading.Reading.{Reading}
 use Rattle.table.specs.Words.{baseOf, blockAt}
 use Rattle.table.specs.Modes.{isCascade}
 use Rattle.table.specs.Settings.{settingsOf}
-use Rattle.table.specs.Transfers.{transfers, transferOf}
+use Rattle.table.specs.Transfers.{transfers}
 use Rattle.table.specs.Programs.{programOf}
 pub mod Laws
 
@@ -37,6 +37,6 @@ readingOf words k former segment =
       settings = s;
       mode = mode;
       remote = remoteOf words mode (s .pointer);
-      transfer = transferOf words (transfers former mode (s .mode1 .bumpless)) k (s .pointer);
+      transfer = transfers former mode (s .mode1 .bumpless);
       program = programOf words (s .mode1 .profile) (tableOf words k) (s .mode2 .input .scale) segment;
     }

@@ -6,7 +6,7 @@ use lib.Dec.{ltb, eqb}
 use lib.ListN.{getD}
 use Rattle.table.specs.declared.mode.Mode.{Mode}
 use Rattle.table.specs.declared.settings.OutputLimits.{OutputLimits}
-use Rattle.table.specs.declared.transfer.Transfer.{Transfer}
+use Rattle.table.specs.declared.transfer.Major.{Major}
 use Rattle.table.specs.Words.{baseOf}
 use Rattle.table.specs.Modes.{isAutomatic, isCascade}
 pub mod Laws
@@ -25,8 +25,6 @@ limitsAt words major =
     cond (eqb major 0) (record { low = 0; high = 0 })
     (record { low = getD words (baseOf major + 24) 0; high = getD words (baseOf major + 25) 0 })
 
--- A13: what a sample of loop k reads for it, `on` where it is a transfer; else nothing is read
-unfoldable pub transferOf : List ℕ → Bool → ℕ → ℕ → Transfer
-transferOf words on k pointer =
-    let major = cond on (majorOf k pointer) 0 in
-    record { on = on; major = major; limits = limitsAt words major }
+-- A13: what a transfer of loop k reads of the major loop
+unfoldable pub majorIn : List ℕ → ℕ → ℕ → Major
+majorIn words k pointer = let j = majorOf k pointer in record { number = j; limits = limitsAt words j }

@@ -1,5 +1,6 @@
-// All that a sample reads of the lent words.
+// All that a sample reads of the lent words, but for a transfer's major loop.
 use crate::mode::Mode;
+use crate::mode::is_automatic;
 use crate::mode::is_cascade;
 use crate::offsets::LOOP_WORDS;
 use crate::offsets::PROFILE_TABLE;
@@ -8,25 +9,24 @@ use crate::program::read_program;
 use crate::settings::Mode1;
 use crate::settings::Settings;
 use crate::settings::read_settings;
-use crate::transfer::Transfer;
-use crate::transfer::is_transfer;
-use crate::transfer::read_transfer;
 use crate::words::base_of;
 use crate::words::word_at;
 ghost use mathlib.Core.Path.{_≡_};
 ghost use Prim.Native.Nat.{_+_, _≤_};
 ghost use lib.ListN.{length};
 ghost use Rattle.table.specs.Words.{baseOf};
+ghost use Rattle.table.specs.Transfers.{transfers};
 ghost use Rattle.table.specs.Reading.{modeAfter, remoteOf, readingOf};
 
 // The loop's number and settings, the mode after the requests (A2), in Cascade the word that the setpoint
-// pointer names (A3; else 0), at a transfer what it asks of the major loop (A13), and the ramp/soak program (G1).
+// pointer names (A3; else 0), whether it is a transfer (A13), and the ramp/soak program (G1). What a transfer asks of
+// the major loop is `read_major`'s.
 pub struct Reading {
     pub number: u8,
     pub settings: Settings,
     pub mode: Mode,
     pub remote: u16,
-    pub transfer: Transfer,
+    pub transfer: bool,
     pub program: Program,
 }
 
@@ -42,6 +42,18 @@ fn mode_after(bits: Mode1, former: Mode) -> Mode
         Mode::Cascade
     } else {
         former
+    }
+}
+
+// A13: from Automatic to Cascade, by request, with bit 3 off.
+fn is_transfer(bits: Mode1, former: Mode) -> bool
+    ensures { λ r. ⌜ r ≡ transfers former (modeAfter bits former) (bits .bumpless) ⌝ }
+{
+    if bits.cascade {
+        let was = is_automatic(former);
+        was & !bits.manual & !bits.automatic & !bits.bumpless
+    } else {
+        false
     }
 }
 
@@ -67,8 +79,7 @@ pub fn read_loop(words: &[u16], number: u8, former: Mode, segment: u8) -> Readin
     let bits = settings.mode1;
     let mode = mode_after(bits, former);
     let remote = read_remote(words, mode, settings.pointer);
-    let on = is_transfer(former, mode, bits.bumpless);
-    let transfer = read_transfer(words, on, number, settings.pointer);
+    let transfer = is_transfer(bits, former);
     let at = words[base + PROFILE_TABLE];
     let program = read_program(words, bits.profile, at, settings.mode2.input.scale, segment);
     Reading {

@@ -16,27 +16,25 @@ use Rattle.refusals.specs.declared.Refusal.{Refusal}
 use Rattle.refusals.specs.declared.Refusal.the-variants.{Record}
 use Rattle.refusals.specs.Refusals.{numberOf, _⇒_, firstOf}
 use Rattle.refusals.specs.Refusals.Laws.{accepted-only, accepted-at, accepted-rest, refused-first, accepted-first}
-use Rattle.table.specs.declared.transfer.Transfer.{Transfer}
 use Rattle.table.specs.declared.reading.Reading.{Reading}
 use Rattle.table.specs.Words.{baseOf, blockAt}
 use Rattle.table.specs.Words.Laws.{or-false, and-true, block-apart}
-use Rattle.table.specs.Transfers.Laws.{Major}
-use Rattle.table.specs.Reading.Laws.{transferred}
+use Rattle.table.specs.Transfers.{majorOf, majorIn}
+use Rattle.table.specs.Transfers.Laws.{IsMajor, major-read}
 use Rattle.carried.specs.Layout.{fieldCount, numberCount, slotOf, outOfRange, numbersOf, recordFrom, numbersAt, recordAt, resetRecord, markedAt, markedRecord}
 use Rattle.carried.specs.Layout.Laws.{read-back, numbers-length, put-same, put-other, ranged, in-range, mark-same, mark-other, mark-record, mark-range}
 use Rattle.carried.specs.declared.record.Carried.{Carried}
 use Rattle.carried.specs.Ranged.{Ranged}
 use Rattle.judging.specs.Judging.{readingCases, transferCases}
-use Rattle.judging.specs.Judging.Laws.{Transferred, transfer-good}
-use Rattle.engine.specs.Sensing.{pvIn, sensedOf}
-use Rattle.engine.specs.Writing.{writtenOf, writtenTo}
+use Rattle.judging.specs.Judging.Laws.{Handed, major-good}
+use Rattle.engine.specs.Sensing.{pvIn}
+use Rattle.engine.specs.Writing.{writtenTo}
 use Rattle.engine.specs.Writing.Laws.{There as Written, Other as Unwritten, written-there, written-length, written-other, written-block}
-use Rattle.engine.specs.Steps.{stepOf}
 use Rattle.engine.specs.Steps.Laws.{usable, stepped-ranged}
 use Rattle.engine.specs.Premises.{Usable}
 use Rattle.desk.specs.declared.finding.Found.the-variants.{Loop}
 use Rattle.desk.specs.declared.finding.Found.the-variants.{Refused as No}
-use Rattle.desk.specs.Desk.{Desk, lent, fittingOf, memoryCases, leftBy, resetDesk, resetAnswer, resetLeft, noLoop, loopCases, foundBy, foundAt, readingAt, judgedCases, stepAt, marks, transferLeft, doneBy, sampleDone, sampleAnswer, judgedAnswer, judgedLeft, copiedBy}
+use Rattle.desk.specs.Desk.{Desk, lent, fittingOf, memoryCases, leftBy, resetDesk, resetAnswer, resetLeft, noLoop, loopCases, foundBy, foundAt, readingAt, judgedCases, stepAt, marks, transferLeft, doneBy, sampleDone, sampleAnswer, judgedAnswer, copiedBy}
 
 -- ---- any call
 
@@ -98,24 +96,16 @@ loop-by (Refused why) x e = absurd (let z : _≡_ {A = ℕ} 0 1 = cc in omega ar
 pub found-refused : (d : Desk) (k raw : ℕ) {why : Refusal} → foundAt d k ≡ No why → sampleAnswer d k raw ≡ Refused why
 unfolding foundAt sampleAnswer
 found-refused d k raw e =
-    refused-first (memoryCases d ++ loopCases (d .numbers) k) (judgedCases (readingAt d k) raw) (refused-by _ (recordAt (d .numbers) k) e)
+    refused-first (memoryCases d ++ loopCases (d .numbers) k) (judgedCases (d .words) k (readingAt d k) raw) (refused-by _ (recordAt (d .numbers) k) e)
 
 -- N7 to N9 refuse alike whatever N11 says; past them N11 decides
-pub judged-refused : (r : Reading) (raw : ℕ) {why : Refusal} → firstOf (readingCases r raw) ≡ Refused why → firstOf (judgedCases r raw) ≡ Refused why
-judged-refused r raw e = refused-first (readingCases r raw) (transferCases (r .transfer) (pvIn r raw)) e
+pub judged-refused : (ws : List ℕ) (k : ℕ) (r : Reading) (raw : ℕ) {why : Refusal} → firstOf (readingCases r raw) ≡ Refused why
+    → firstOf (judgedCases ws k r raw) ≡ Refused why
+judged-refused ws k r raw e = refused-first (readingCases r raw) (transferCases (r .transfer) (majorIn ws k (r .settings .pointer)) (pvIn r raw)) e
 
-pub judged-past : (r : Reading) (raw : ℕ) → firstOf (readingCases r raw) ≡ Accepted
-    → firstOf (judgedCases r raw) ≡ firstOf (transferCases (r .transfer) (pvIn r raw))
-judged-past r raw e = accepted-first (readingCases r raw) (transferCases (r .transfer) (pvIn r raw)) e
-
--- so what N11 answers to the step's PV, and leaves, is what the definition does
-pub written-back : (d : Desk) (k raw : ℕ) {a : Answer} {after : Desk} → firstOf (readingCases (readingAt d k) raw) ≡ Accepted
-    → a ≡ firstOf (transferCases (readingAt d k .transfer) (stepAt d k raw .written .pv)) → after ≡ leftBy a (sampleDone d k raw) d
-    → (a ≡ judgedAnswer d k raw) × (after ≡ judgedLeft d k raw)
-unfolding stepOf writtenOf sensedOf
-written-back d k raw {a} {after} e f g =
-    let same : a ≡ judgedAnswer d k raw = f ∙ sym (judged-past (readingAt d k) raw e) in
-    (same, g ∙ ap (λ (x : Answer). leftBy x (sampleDone d k raw) d) same)
+pub judged-past : (ws : List ℕ) (k : ℕ) (r : Reading) (raw : ℕ) → firstOf (readingCases r raw) ≡ Accepted
+    → firstOf (judgedCases ws k r raw) ≡ firstOf (transferCases (r .transfer) (majorIn ws k (r .settings .pointer)) (pvIn r raw))
+judged-past ws k r raw e = accepted-first (readingCases r raw) (transferCases (r .transfer) (majorIn ws k (r .settings .pointer)) (pvIn r raw)) e
 
 -- where there is one, the reading decides
 pub record There (d : Desk) (k : ℕ) (c : Carried) : Type 0 where
@@ -138,7 +128,7 @@ found-loop d k {c} e =
       below = loop .below;
       record′ = f .1;
       range = rw (f .1) (ranged (numbersAt (d .numbers) (slotOf k)) (loop .range));
-      judged = λ raw. accepted-first (memoryCases d ++ loopCases (d .numbers) k) (judgedCases (readingAt d k) raw) (f .0);
+      judged = λ raw. accepted-first (memoryCases d ++ loopCases (d .numbers) k) (judgedCases (d .words) k (readingAt d k) raw) (f .0);
     }
 
 -- ---- an accepted sample
@@ -149,25 +139,26 @@ pub record Sampled (d : Desk) (k raw : ℕ) : Type 0 where
   pub below : k ≤ 16
   pub carried : Ranged (recordAt (d .numbers) k)
   pub reading : Usable (readingAt d k) raw
-  pub transfer : readingAt d k .transfer .on ≡ true → Transferred (readingAt d k .transfer) (pvIn (readingAt d k) raw)
+  pub transfer : readingAt d k .transfer ≡ true → Handed (majorIn (d .words) k (readingAt d k .settings .pointer)) (pvIn (readingAt d k) raw)
 
 pub sampled : (d : Desk) (k raw : ℕ) → sampleAnswer d k raw ≡ Accepted → Sampled d k raw
 unfolding sampleAnswer
 sampled d k raw e =
-    let p = accepted-rest (memoryCases d) (loopCases (d .numbers) k ++ judgedCases (readingAt d k) raw) e in
-    let q = accepted-rest (loopCases (d .numbers) k) (judgedCases (readingAt d k) raw) (p .1) in
+    let p = accepted-rest (memoryCases d) (loopCases (d .numbers) k ++ judgedCases (d .words) k (readingAt d k) raw) e in
+    let q = accepted-rest (loopCases (d .numbers) k) (judgedCases (d .words) k (readingAt d k) raw) (p .1) in
     let loop = known-loop (d .numbers) k (q .0) in
     let c = recordAt (d .numbers) k in
     let in-rows : Ranged c = ranged (numbersAt (d .numbers) (slotOf k)) (loop .range) in
     let r = readingAt d k in
-    let j = accepted-rest (readingCases r raw) (transferCases (r .transfer) (pvIn r raw)) (q .1) in
+    let m = majorIn (d .words) k (r .settings .pointer) in
+    let j = accepted-rest (readingCases r raw) (transferCases (r .transfer) m (pvIn r raw)) (q .1) in
     record {
       memory = sound d (fits d (p .0));
       above = loop .above;
       below = loop .below;
       carried = in-rows;
       reading = usable (d .words) k (c .state .mode) (c .state .profile .segment) raw (in-rows .profile .segment) (j .0);
-      transfer = transfer-good (r .transfer) (pvIn r raw) (accepted-at (transferCases (r .transfer) (pvIn r raw)) (j .1) 0);
+      transfer = λ on. major-good m (pvIn r raw) (rw on at (accepted-at (transferCases (r .transfer) m (pvIn r raw)) (j .1) 0));
     }
 
 -- so an answer of 0 is that of a loop that there is
@@ -176,7 +167,7 @@ zero-loop d k raw e = let s = sampled d k raw (accepted-only _ e) in (s .above, 
 
 -- past N5 and N4 the record and the reading decide
 pub answer-ranged : (d : Desk) (k raw : ℕ) → fittingOf d ≡ true → 1 ≤ k → k ≤ 16
-    → sampleAnswer d k raw ≡ firstOf ((outOfRange (numbersAt (d .numbers) (slotOf k)) ⇒ Record) ∷ judgedCases (readingAt d k) raw)
+    → sampleAnswer d k raw ≡ firstOf ((outOfRange (numbersAt (d .numbers) (slotOf k)) ⇒ Record) ∷ judgedCases (d .words) k (readingAt d k) raw)
 unfolding sampleAnswer
 answer-ranged d k raw fit above below = rw (fit, there-loop k above below)
 
@@ -194,13 +185,16 @@ unfolding doneBy transferLeft
 done-lengths d k raw =
     let words = written-length (d .words) (baseOf k) (stepAt d k raw .written) in
     let numbers = length-sets (d .numbers) (slotOf k) (numbersOf (stepAt d k raw .carried)) in
-    by-transfer (λ (e : Desk). (length (e .words) ≡ length (d .words)) × (length (e .numbers) ≡ length (d .numbers))) (readingAt d k .transfer .on)
+    by-transfer (λ (e : Desk). (length (e .words) ≡ length (d .words)) × (length (e .numbers) ≡ length (d .numbers))) (readingAt d k .transfer)
     (λ _. (simp length-set words, simp length-set numbers)) (λ _. (words, numbers))
 
 -- its own record is the step's, in range again
 module _ (d : Desk) (k raw : ℕ) (s : Sampled d k raw) where
-  abbrev transfer : Transfer
+  abbrev transfer : Bool
   transfer = readingAt d k .transfer
+
+  abbrev major : ℕ
+  major = majorOf k (readingAt d k .settings .pointer)
 
   abbrev next : Carried
   next = stepAt d k raw .carried
@@ -210,18 +204,17 @@ module _ (d : Desk) (k raw : ℕ) (s : Sampled d k raw) where
   put = sets (d .numbers) (slotOf k) (numbersOf next)
 
   -- a major loop is another one of the sixteen
-  pub major-there : transfer .on ≡ true → Major k (readingAt d k .settings .pointer) (transfer .major)
-  major-there on =
-      let c = recordAt (d .numbers) k in
-      transferred (d .words) k (c .state .mode) (c .state .profile .segment) on (s .transfer on .major) .0
+  pub major-there : transfer ≡ true → IsMajor k (readingAt d k .settings .pointer) major
+  unfolding majorIn
+  major-there on = major-read (d .words) k (readingAt d k .settings .pointer) (s .transfer on .number) .0
 
   pub own-numbers : numbersAt (sampleDone d k raw .numbers) (slotOf k) ≡ numbersOf next
   unfolding doneBy transferLeft
   own-numbers =
       let same : numbersAt put (slotOf k) ≡ numbersOf next
       = put-same (d .numbers) (numbersOf next) (slotOf k) (numbers-length next) (omega (arith, s .memory .numbers, s .above, s .below)) in
-      by-transfer (λ (e : Desk). numbersAt (e .numbers) (slotOf k) ≡ numbersOf next) (transfer .on)
-      (λ on. let m = major-there on in mark-other put (transfer .major) k (m .above) (s .above) (λ e. m .other (sym e)) ∙ same)
+      by-transfer (λ (e : Desk). numbersAt (e .numbers) (slotOf k) ≡ numbersOf next) transfer
+      (λ on. let m = major-there on in mark-other put major k (m .above) (s .above) (λ e. m .other (sym e)) ∙ same)
       (λ _. same)
 
   -- its own eight words are the step's
@@ -230,12 +223,12 @@ module _ (d : Desk) (k raw : ℕ) (s : Sampled d k raw) where
   own-words =
       let w = stepAt d k raw .written in
       let there = written-there (d .words) (baseOf k) w (omega (arith, s .memory .words, s .above, s .below)) in
-      by-transfer (λ (e : Desk). Written (e .words) (baseOf k) w) (transfer .on)
+      by-transfer (λ (e : Desk). Written (e .words) (baseOf k) w) transfer
       (λ on. let m = major-there on in
-      let apart : (i : ℕ) → i < 32 → getD (set (writtenTo (d .words) (baseOf k) w) (baseOf (transfer .major) + 5) (w .pv)) (baseOf k + i) 0 ≡ getD (writtenTo (d .words) (baseOf k) w) (baseOf k + i) 0
-      = λ i few. getD-set-other (writtenTo (d .words) (baseOf k) w) (baseOf (transfer .major) + 5) (baseOf k + i) (w .pv) 0 (λ e. m .other (omega (arith, m .above, s .above))) in
+      let apart : (i : ℕ) → i < 32 → getD (set (writtenTo (d .words) (baseOf k) w) (baseOf major + 5) (w .pv)) (baseOf k + i) 0 ≡ getD (writtenTo (d .words) (baseOf k) w) (baseOf k + i) 0
+      = λ i few. getD-set-other (writtenTo (d .words) (baseOf k) w) (baseOf major + 5) (baseOf k + i) (w .pv) 0 (λ e. m .other (omega (arith, m .above, s .above))) in
       record {
-        word = ap (λ i. getD (set (writtenTo (d .words) (baseOf k) w) (baseOf (transfer .major) + 5) (w .pv)) i 0) (sym (add-zero (baseOf k))) ∙ apart 0 (omega arith) ∙ ap (λ i. getD (writtenTo (d .words) (baseOf k) w) i 0) (add-zero (baseOf k)) ∙ there .word;
+        word = ap (λ i. getD (set (writtenTo (d .words) (baseOf k) w) (baseOf major + 5) (w .pv)) i 0) (sym (add-zero (baseOf k))) ∙ apart 0 (omega arith) ∙ ap (λ i. getD (writtenTo (d .words) (baseOf k) w) i 0) (add-zero (baseOf k)) ∙ there .word;
         setpoint = apart 2 (omega arith) ∙ there .setpoint;
         pv = apart 3 (omega arith) ∙ there .pv;
         bias = apart 4 (omega arith) ∙ there .bias;
@@ -252,31 +245,31 @@ module _ (d : Desk) (k raw : ℕ) (s : Sampled d k raw) where
   own-block =
       let w = stepAt d k raw .written in
       let block = written-block (d .words) (baseOf k) w in
-      by-transfer (λ (e : Desk). blockAt (e .words) (baseOf k) ≡ writtenTo (blockAt (d .words) (baseOf k)) 0 w) (transfer .on)
+      by-transfer (λ (e : Desk). blockAt (e .words) (baseOf k) ≡ writtenTo (blockAt (d .words) (baseOf k)) 0 w) transfer
       (λ on. let m = major-there on in
-      block-apart (writtenTo (d .words) (baseOf k) w) (baseOf k) (baseOf (transfer .major) + 5) (w .pv) (λ n few e. m .other (omega (arith, m .above, s .above))) ∙ block)
+      block-apart (writtenTo (d .words) (baseOf k) w) (baseOf k) (baseOf major + 5) (w .pv) (λ n few e. m .other (omega (arith, m .above, s .above))) ∙ block)
       (λ _. block)
 
   -- at a transfer the word pointed to is the PV
-  pub major-word : transfer .on ≡ true → getD (sampleDone d k raw .words) (baseOf (transfer .major) + 5) 0 ≡ stepAt d k raw .written .pv
+  pub major-word : transfer ≡ true → getD (sampleDone d k raw .words) (baseOf major + 5) 0 ≡ stepAt d k raw .written .pv
   unfolding doneBy transferLeft
   major-word on =
       let w = stepAt d k raw .written in
       let m = major-there on in
-      by-transfer (λ (e : Desk). getD (e .words) (baseOf (transfer .major) + 5) 0 ≡ w .pv) (transfer .on)
-      (λ _. getD-set-same (writtenTo (d .words) (baseOf k) w) (baseOf (transfer .major) + 5) (w .pv) 0
+      by-transfer (λ (e : Desk). getD (e .words) (baseOf major + 5) 0 ≡ w .pv) transfer
+      (λ _. getD-set-same (writtenTo (d .words) (baseOf k) w) (baseOf major + 5) (w .pv) 0
       (omega (arith, written-length (d .words) (baseOf k) w, s .memory .words, m .below)))
       (λ off. absurd (no-both on off))
 
   -- no other word is written
-  pub other-words : (i : ℕ) → Unwritten (baseOf k) i → (transfer .on ≡ true → i ≡ readingAt d k .settings .pointer → ⊥)
+  pub other-words : (i : ℕ) → Unwritten (baseOf k) i → (transfer ≡ true → i ≡ readingAt d k .settings .pointer → ⊥)
       → getD (sampleDone d k raw .words) i 0 ≡ getD (d .words) i 0
   unfolding doneBy transferLeft
   other-words i o apart =
       let w = stepAt d k raw .written in
       let own = written-other (d .words) (baseOf k) w i o in
-      by-transfer (λ (e : Desk). getD (e .words) i 0 ≡ getD (d .words) i 0) (transfer .on)
-      (λ on. getD-set-other (writtenTo (d .words) (baseOf k) w) (baseOf (transfer .major) + 5) i (w .pv) 0 (λ e. apart on (e ∙ sym (major-there on .output))) ∙ own)
+      by-transfer (λ (e : Desk). getD (e .words) i 0 ≡ getD (d .words) i 0) transfer
+      (λ on. getD-set-other (writtenTo (d .words) (baseOf k) w) (baseOf major + 5) i (w .pv) 0 (λ e. apart on (e ∙ sym (major-there on .output))) ∙ own)
       (λ _. own)
 
   pub own-record : recordAt (sampleDone d k raw .numbers) k ≡ next
@@ -290,20 +283,20 @@ module _ (d : Desk) (k raw : ℕ) (s : Sampled d k raw) where
     before : numbersAt put (slotOf j) ≡ numbersAt (d .numbers) (slotOf j)
     before = put-other (d .numbers) (numbersOf next) k j (numbers-length next) (s .above) first other
 
-    pub other-numbers : marks transfer j ≡ false → numbersAt (sampleDone d k raw .numbers) (slotOf j) ≡ numbersAt (d .numbers) (slotOf j)
+    pub other-numbers : marks k (readingAt d k) j ≡ false → numbersAt (sampleDone d k raw .numbers) (slotOf j) ≡ numbersAt (d .numbers) (slotOf j)
     unfolding doneBy transferLeft
     other-numbers none =
-        by-transfer (λ (e : Desk). numbersAt (e .numbers) (slotOf j) ≡ numbersAt (d .numbers) (slotOf j)) (transfer .on)
-        (λ on. mark-other put (transfer .major) j (major-there on .above) first (λ e. eqb-false (transfer .major) j (rw on at none) (sym e)) ∙ before)
+        by-transfer (λ (e : Desk). numbersAt (e .numbers) (slotOf j) ≡ numbersAt (d .numbers) (slotOf j)) transfer
+        (λ on. mark-other put major j (major-there on .above) first (λ e. eqb-false major j (rw on at none) (sym e)) ∙ before)
         (λ _. before)
 
-    pub marked-numbers : marks transfer j ≡ true
+    pub marked-numbers : marks k (readingAt d k) j ≡ true
         → numbersAt (sampleDone d k raw .numbers) (slotOf j) ≡ set (numbersAt (d .numbers) (slotOf j)) 13 (pos 1)
     unfolding doneBy transferLeft
     marked-numbers all =
-        let p = and-true (transfer .on) (eqb (transfer .major) j) all in
-        let e : transfer .major ≡ j = eqb-true (transfer .major) j (p .1) in
-        by-transfer (λ (e : Desk). numbersAt (e .numbers) (slotOf j) ≡ set (numbersAt (d .numbers) (slotOf j)) 13 (pos 1)) (transfer .on)
+        let p = and-true (transfer) (eqb major j) all in
+        let e : major ≡ j = eqb-true major j (p .1) in
+        by-transfer (λ (e : Desk). numbersAt (e .numbers) (slotOf j) ≡ set (numbersAt (d .numbers) (slotOf j)) 13 (pos 1)) transfer
         (λ _. subst (λ n. numbersAt (markedAt put n) (slotOf j) ≡ set (numbersAt (d .numbers) (slotOf j)) 13 (pos 1)) (sym e)
         (mark-same put j ∙ ap (λ (ns : List ℤ). set ns 13 (pos 1)) before))
         (λ off. absurd (no-both (p .0) off))
@@ -312,17 +305,17 @@ module _ (d : Desk) (k raw : ℕ) (s : Sampled d k raw) where
     size last = simp (length-take, length-drop) (omega (arith, s .memory .numbers))
 
     pub other-record : j ≤ 16
-        → recordAt (sampleDone d k raw .numbers) j ≡ cond (marks transfer j) (markedRecord (recordAt (d .numbers) j)) (recordAt (d .numbers) j)
-    other-record last = go (marks transfer j) refl
+        → recordAt (sampleDone d k raw .numbers) j ≡ cond (marks k (readingAt d k) j) (markedRecord (recordAt (d .numbers) j)) (recordAt (d .numbers) j)
+    other-record last = go (marks k (readingAt d k) j) refl
       where
-        go : (b : Bool) → marks transfer j ≡ b → recordAt (sampleDone d k raw .numbers) j ≡ cond b (markedRecord (recordAt (d .numbers) j)) (recordAt (d .numbers) j)
+        go : (b : Bool) → marks k (readingAt d k) j ≡ b → recordAt (sampleDone d k raw .numbers) j ≡ cond b (markedRecord (recordAt (d .numbers) j)) (recordAt (d .numbers) j)
         go true e = ap recordFrom (marked-numbers e) ∙ mark-record (numbersAt (d .numbers) (slotOf j)) (size last)
         go false e = ap recordFrom (other-numbers e)
 
     pub other-range : j ≤ 16 → outOfRange (numbersAt (d .numbers) (slotOf j)) ≡ false → outOfRange (numbersAt (sampleDone d k raw .numbers) (slotOf j)) ≡ false
-    other-range last h = go (marks transfer j) refl
+    other-range last h = go (marks k (readingAt d k) j) refl
       where
-        go : (b : Bool) → marks transfer j ≡ b → outOfRange (numbersAt (sampleDone d k raw .numbers) (slotOf j)) ≡ false
+        go : (b : Bool) → marks k (readingAt d k) j ≡ b → outOfRange (numbersAt (sampleDone d k raw .numbers) (slotOf j)) ≡ false
         go true e = rw (marked-numbers e) (mark-range (numbersAt (d .numbers) (slotOf j)) (size last) h)
         go false e = rw (other-numbers e) h
 

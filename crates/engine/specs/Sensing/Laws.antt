@@ -2,7 +2,6 @@
 use Prim.Native.Nat.{ℕ, _*_, _≤_}
 use native.Mathlib.Omega.{arith}
 use native.Mathlib.Nat.{mul-le-mul, mul-le-mul-right}
-use mathlib.Core.Path.{_≡_, refl}
 use mathlib.Core.Bool.{Bool, not, _&&_, _||_}
 use Rattle.numbers.specs.Limits.Laws.{by-test}
 use Rattle.numbers.specs.Roots.Laws.{root-exact, root-high}
@@ -22,16 +21,10 @@ pv-high root {scale} {raw} h l =
     scale (omega (arith, mul-le-mul-right scale l)))
     (λ _. l)
 
--- raw PV 0 gives 0
-pub pv-zero : (root : Bool) (scale : ℕ) → pvOf root scale 0 ≡ 0
-unfolding pvOf
-pv-zero root scale =
-    by-test (λ p. p ≡ 0) root (λ _. let h = root-high (root-exact (0 * scale) (omega arith)) 0 (omega arith) in omega arith) (λ _. refl)
-
 pub target-high : (r : Reading) (change runs : Bool) {p scale : ℕ} → p ≤ scale → setpointOf r ≤ scale → targetOf r change runs p ≤ scale
 unfolding targetOf
 target-high r change runs {p} {scale} h l =
-    by-test (λ n. n ≤ scale) (r .transfer .on || (change && isAutomatic (r .mode) && not (r .settings .mode1 .bumpless) && not runs)) (λ _. h) (λ _. l)
+    by-test (λ n. n ≤ scale) (r .transfer || (change && isAutomatic (r .mode) && not (r .settings .mode1 .bumpless) && not runs)) (λ _. h) (λ _. l)
 
 -- the profile stays in its ranges, and its setpoint within the scale, in Cascade too
 module _ (r : Reading) {q : Profile} (w : Within q) (target p : ℕ) where

@@ -1,7 +1,7 @@
 -- What an accepted sample's reading is known to be, each group by its name.
 use Prim.Native.Nat.{ℕ, _≤_, _<_}
 use native.Mathlib.Omega.{arith}
-use mathlib.Core.Path.{_≡_, refl}
+use mathlib.Core.Path.{_≡_}
 use mathlib.Core.Bool.{Bool, true, false, cond, _||_}
 use lib.Dec.{ltb, eqb}
 use borrow.Author.Tests.{ltb-false, eqb-false, le-ltb, ne-eqb}
@@ -10,10 +10,10 @@ use Rattle.refusals.specs.Refusals.{firstOf}
 use Rattle.refusals.specs.Refusals.Laws.{accepted-at}
 use Rattle.table.specs.declared.settings.Tuning.{Tuning}
 use Rattle.table.specs.declared.settings.OutputLimits.{OutputLimits}
-use Rattle.table.specs.declared.transfer.Transfer.{Transfer}
+use Rattle.table.specs.declared.transfer.Major.{Major}
 use Rattle.table.specs.declared.reading.Reading.{Reading}
 use Rattle.table.specs.Words.Laws.{or-false}
-use Rattle.judging.specs.Judging.{badTimes, badLimits, badSetpoint, readingCases, badTransfer, Passed}
+use Rattle.judging.specs.Judging.{badTimes, badLimits, badSetpoint, readingCases, badMajor, Passed}
 
 pub passed : (r : Reading) (raw : ℕ) → firstOf (readingCases r raw) ≡ Accepted → Passed r raw
 passed r raw e =
@@ -44,22 +44,17 @@ setpoint-good true scale setpoint pointer remote e = ltb-false _ _ (or-false (lt
 setpoint-good false scale setpoint pointer remote e = ltb-false _ _ (or-false (ltb scale setpoint) false e .0)
 
 -- a transfer has a major loop, and p is inside its limits
-pub record Transferred (t : Transfer) (p : ℕ) : Type 0 where
-  pub major : t .major ≡ 0 → ⊥
-  pub low : t .limits .low ≤ p
-  pub high : p ≤ t .limits .high
+pub record Handed (m : Major) (p : ℕ) : Type 0 where
+  pub number : m .number ≡ 0 → ⊥
+  pub low : m .limits .low ≤ p
+  pub high : p ≤ m .limits .high
 
-pub transfer-good : (t : Transfer) (p : ℕ) → badTransfer t p ≡ false → t .on ≡ true → Transferred t p
-transfer-good t p e on =
-    let some : (eqb (t .major) 0 || ltb p (t .limits .low) || ltb (t .limits .high) p) ≡ false = rw on at e in
-    let h = or-false (eqb (t .major) 0 || ltb p (t .limits .low)) (ltb (t .limits .high) p) some in
-    let l = or-false (eqb (t .major) 0) (ltb p (t .limits .low)) (h .0) in
-    record { major = eqb-false _ _ (l .0); low = ltb-false _ _ (l .1); high = ltb-false _ _ (h .1) }
+pub major-good : (m : Major) (p : ℕ) → badMajor m p ≡ false → Handed m p
+major-good m p e =
+    let h = or-false (eqb (m .number) 0 || ltb p (m .limits .low)) (ltb (m .limits .high) p) e in
+    let l = or-false (eqb (m .number) 0) (ltb p (m .limits .low)) (h .0) in
+    record { number = eqb-false _ _ (l .0); low = ltb-false _ _ (l .1); high = ltb-false _ _ (h .1) }
 
--- and one that has is not refused; nor is a sample that is none
-pub good-transfer : (t : Transfer) (p : ℕ) → (t .on ≡ true → Transferred t p) → badTransfer t p ≡ false
-good-transfer t p h = go (t .on) refl
-  where
-    go : (b : Bool) → t .on ≡ b → badTransfer t p ≡ false
-    go true e = let g = h e in rw (ne-eqb (t .major) 0 (g .major), le-ltb p (t .limits .low) (g .low), le-ltb (t .limits .high) p (g .high), e)
-    go false e = rw e
+-- and one that has is not refused
+pub good-major : (m : Major) (p : ℕ) → Handed m p → badMajor m p ≡ false
+good-major m p h = rw (ne-eqb (m .number) 0 (h .number), le-ltb p (m .limits .low) (h .low), le-ltb (m .limits .high) p (h .high))

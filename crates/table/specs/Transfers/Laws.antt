@@ -11,7 +11,7 @@ use Rattle.table.specs.declared.mode.Mode.{Mode}
 use Rattle.table.specs.Words.{baseOf}
 use Rattle.table.specs.Words.Laws.{and-true}
 use Rattle.table.specs.Modes.{isAutomatic, isCascade}
-use Rattle.table.specs.Transfers.{transfers, majorOf, limitsAt, transferOf}
+use Rattle.table.specs.Transfers.{transfers, majorOf, limitsAt, majorIn}
 
 -- a sample outside Cascade is none
 pub only-cascade : (former mode : Mode) (bumpless : Bool) → isCascade mode ≡ false → transfers former mode bumpless ≡ false
@@ -23,18 +23,18 @@ only-cascade former mode bumpless e = rw e (unless (isAutomatic former) (not bum
     unless false b = refl
 
 -- a major loop is one of the sixteen, not loop k, and its output word has the address
-pub record Major (k pointer j : ℕ) : Type 0 where
+pub record IsMajor (k pointer j : ℕ) : Type 0 where
   pub above : 1 ≤ j
   pub below : j ≤ 16
   pub other : j ≡ k → ⊥
   pub output : pointer ≡ baseOf j + 5
 
-pub major-is : (k pointer : ℕ) → (majorOf k pointer ≡ 0 → ⊥) → Major k pointer (majorOf k pointer)
+pub major-is : (k pointer : ℕ) → (majorOf k pointer ≡ 0 → ⊥) → IsMajor k pointer (majorOf k pointer)
 unfolding majorOf
 major-is k pointer some = go (ltb pointer 512 && eqb (pointer % 32) 5 && not (eqb (pointer / 32 + 1) k)) refl some
   where
     go : (b : Bool) → (ltb pointer 512 && eqb (pointer % 32) 5 && not (eqb (pointer / 32 + 1) k)) ≡ b → (cond b (pointer / 32 + 1) 0 ≡ 0 → ⊥)
-        → Major k pointer (cond b (pointer / 32 + 1) 0)
+        → IsMajor k pointer (cond b (pointer / 32 + 1) 0)
     go false e some = absurd (some refl)
     go true e some =
         let p = and-true (ltb pointer 512 && eqb (pointer % 32) 5) (not (eqb (pointer / 32 + 1) k)) e in
@@ -48,14 +48,6 @@ major-is k pointer some = go (ltb pointer 512 && eqb (pointer % 32) 5 && not (eq
           output = omega (arith, five);
         }
 
--- what is read of it: nothing where there is no transfer; else its limits, if there is one
-pub transfer-local : (ws ws′ : List ℕ) (on : Bool) (k k′ pointer : ℕ)
-    → (on ≡ true → (majorOf k pointer ≡ majorOf k′ pointer) × (limitsAt ws (majorOf k pointer) ≡ limitsAt ws′ (majorOf k pointer)))
-    → transferOf ws on k pointer ≡ transferOf ws′ on k′ pointer
-unfolding transferOf limitsAt
-transfer-local ws ws′ true k k′ pointer h = let p = h refl in rw (p .1, ← p .0)
-transfer-local ws ws′ false k k′ pointer h = refl
-
 -- the limits of a major loop are its two words
 pub limits-same : (ws ws′ : List ℕ) (j : ℕ)
     → ((j ≡ 0 → ⊥) → (getD ws (baseOf j + 24) 0 ≡ getD ws′ (baseOf j + 24) 0) × (getD ws (baseOf j + 25) 0 ≡ getD ws′ (baseOf j + 25) 0))
@@ -67,25 +59,29 @@ limits-same ws ws′ j h = go (eqb j 0) refl
     go true e = rw e
     go false e = let p = h (eqb-false j 0 e) in rw (e, p .0, p .1)
 
--- so it is none above 16, and there is none where there is no transfer
-pub major-low : (ws : List ℕ) (on : Bool) (k pointer : ℕ) → transferOf ws on k pointer .major ≤ 16
-unfolding transferOf
-major-low ws false k pointer = omega arith
-major-low ws true k pointer = go (eqb (majorOf k pointer) 0) refl
+-- it is none above 16, and what is read of it are its number and its two words
+pub major-low : (k pointer : ℕ) → majorOf k pointer ≤ 16
+major-low k pointer = go (eqb (majorOf k pointer) 0) refl
   where
     go : (b : Bool) → eqb (majorOf k pointer) 0 ≡ b → majorOf k pointer ≤ 16
     go true e = omega (arith, eqb-true (majorOf k pointer) 0 e)
     go false e = major-is k pointer (eqb-false (majorOf k pointer) 0 e) .below
 
--- a transfer with a major loop: it is that, and its words 24 and 25 are the limits
-pub transfer-is : (ws : List ℕ) (on : Bool) (k pointer : ℕ) → let t = transferOf ws on k pointer in
-    t .on ≡ true → (t .major ≡ 0 → ⊥)
-    → Major k pointer (t .major) × (t .limits .low ≡ getD ws (baseOf (t .major) + 24) 0) × (t .limits .high ≡ getD ws (baseOf (t .major) + 25) 0)
-unfolding transferOf limitsAt
-transfer-is ws true k pointer e some =
+pub major-read : (ws : List ℕ) (k pointer : ℕ) → let m = majorIn ws k pointer in
+    (m .number ≡ 0 → ⊥)
+    → IsMajor k pointer (m .number) × (m .limits .low ≡ getD ws (baseOf (m .number) + 24) 0) × (m .limits .high ≡ getD ws (baseOf (m .number) + 25) 0)
+unfolding majorIn limitsAt
+major-read ws k pointer some =
     let other : eqb (majorOf k pointer) 0 ≡ false = ne-eqb (majorOf k pointer) 0 some in
     (major-is k pointer some, rw other, rw other)
-transfer-is ws false k pointer e some = absurd (some refl)
+
+-- so two that have the same number and the same two words are read alike
+pub major-local : (ws ws′ : List ℕ) (k k′ pointer : ℕ) → majorOf k pointer ≡ majorOf k′ pointer
+    → let j = majorOf k pointer in
+    ((j ≡ 0 → ⊥) → (getD ws (baseOf j + 24) 0 ≡ getD ws′ (baseOf j + 24) 0) × (getD ws (baseOf j + 25) 0 ≡ getD ws′ (baseOf j + 25) 0))
+    → majorIn ws k pointer ≡ majorIn ws′ k′ pointer
+unfolding majorIn
+major-local ws ws′ k k′ pointer e h = rw (limits-same ws ws′ (majorOf k pointer) h, ← e)
 
 -- the loop whose output word has the address is found, and no other
 pub major-found : (k j : ℕ) → 1 ≤ j → j ≤ 16 → (j ≡ k → ⊥) → majorOf k (baseOf j + 5) ≡ j

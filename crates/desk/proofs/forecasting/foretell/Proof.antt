@@ -1,16 +1,19 @@
 -- `desk::foretell` meets its contract: judged as a sample with raw PV 0 is, and then counted.
+use Prim.Native.Nat.{ℕ}
 use native.Mathlib.Omega.{arith}
 use mathlib.Core.Path.{_≡_, sym, ap, _∙_}
+use mathlib.Core.Bool.{_&&_}
+use mathlib.Core.List.{List}
 use denote.Ref.{now}
 use Rattle.refusals.specs.declared.Refusal.the-variants.{Transfer as NoTransfer}
 use Rattle.refusals.specs.declared.Answer.{Answer}
 use Rattle.refusals.specs.declared.Answer.the-variants.{Accepted, Refused}
 use Rattle.refusals.specs.Refusals.{firstOf}
 use Rattle.table.specs.declared.reading.Reading.{Reading}
+use Rattle.table.specs.Transfers.{majorIn}
 use Rattle.table.specs.Reading.Laws.{table-inside}
-use Rattle.judging.specs.Judging.{readingCases, badTransfer}
+use Rattle.judging.specs.Judging.{readingCases, badMajor}
 use Rattle.engine.specs.Sensing.{pvIn}
-use Rattle.engine.specs.Sensing.Laws.{pv-zero}
 use Rattle.engine.specs.Steps.Laws.{usable}
 use Rattle.desk.specs.Desk.{readingBy, judgedCases, remainingOf, countedBy, foretoldOf}
 use Rattle.desk.specs.Desk.Laws.{judged-refused, judged-past}
@@ -39,11 +42,11 @@ module _ (c : tie.After-judge) where
   unfolding start
   judged = c .judge .ensures ∙ ap (λ (r : Reading). firstOf (readingCases r 0)) (c .before .read-loop .ensures)
 
-bad-transfer-requires : tie.Need-bad-transfer-requires
-bad-transfer-requires c κs = search needs
+no-transfer-requires : tie.Need-no-transfer-requires
+no-transfer-requires c κs = search needs
 
 -- past N7 to N9 it is N11 with p = 0 that decides
-module _ (c : tie.After-bad-transfer) where
+module _ (c : tie.After-no-transfer) where
   abbrev reading : Reading
   reading = let a = start (c .before .before .before) .args in readingBy (now (a .words)) (a .number) (a .carried)
 
@@ -51,17 +54,22 @@ module _ (c : tie.After-bad-transfer) where
   unfolding start
   passed = sym (judged (c .before .before .before)) ∙ c .before .enum-told .given .1
 
-  tested : badTransfer (reading .transfer) (pvIn reading 0) ≡ c .bad-transfer .result
+  abbrev ws : List ℕ
+  ws = now (start (c .before .before .before) .args .words)
+
+  abbrev k : ℕ
+  k = start (c .before .before .before) .args .number
+
+  tested : (reading .transfer && badMajor (majorIn ws k (reading .settings .pointer)) (pvIn reading 0)) ≡ c .no-transfer .result
   unfolding start
   tested =
-      ap (badTransfer (reading .transfer)) (pv-zero (reading .settings .mode1 .root) (reading .settings .mode2 .input .scale))
-      ∙ sym (c .bad-transfer .ensures ∙ ap (λ (r : Reading). badTransfer (r .transfer) 0) (c .before .before .before .before .read-loop .ensures))
+      sym (c .no-transfer .ensures ∙ ap (λ (r : Reading). r .transfer && badMajor (majorIn ws k (r .settings .pointer)) (pvIn r 0)) (c .before .before .before .before .read-loop .ensures))
 
 returns : tie.Need-returns
 unfolding foretoldOf start
 returns c =
     let b = c .before in
-    let e : firstOf (judgedCases (reading b) 0) ≡ Refused NoTransfer = judged-past (reading b) 0 (passed b) ∙ rw (tested b ∙ c .if1 .taken) in
+    let e : firstOf (judgedCases (ws b) (k b) (reading b) 0) ≡ Refused NoTransfer = judged-past (ws b) (k b) (reading b) 0 (passed b) ∙ rw (tested b ∙ c .if1 .taken) in
     let a = start (b .before .before .before) .args in
     sym (ap (λ (x : Answer). countedBy x (remainingOf (now (a .words)) (a .number) (a .carried))) e)
 
@@ -84,13 +92,13 @@ returns-2 c =
     let j = c .before .before .before in
     let a = start j .args in
     let r = readingBy (now (a .words)) (a .number) (a .carried) in
-    sym (ap (λ (x : Answer). countedBy x (remainingOf (now (a .words)) (a .number) (a .carried))) (judged-refused r 0 (sym (judged j) ∙ c .before .answer .given .1)))
+    sym (ap (λ (x : Answer). countedBy x (remainingOf (now (a .words)) (a .number) (a .carried))) (judged-refused (now (a .words)) (a .number) r 0 (sym (judged j) ∙ c .before .answer .given .1)))
 
 returns-3 : tie.Need-returns-3
 unfolding foretoldOf remainingOf start
 returns-3 c =
     let b = c .before .before in
-    let e : firstOf (judgedCases (reading b) 0) ≡ Accepted = judged-past (reading b) 0 (passed b) ∙ rw (tested b ∙ c .before .if1 .left) in
+    let e : firstOf (judgedCases (ws b) (k b) (reading b) 0) ≡ Accepted = judged-past (ws b) (k b) (reading b) 0 (passed b) ∙ rw (tested b ∙ c .before .if1 .left) in
     rw (e, c .remaining .ensures, b .before .before .before .before .read-loop .ensures)
 
 pub foretell-spec : {M : Type 1} → statement M
@@ -101,7 +109,7 @@ foretell-spec =
     judge-requires
     enum-known-answer
     enum-told
-    bad-transfer-requires
+    no-transfer-requires
     returns
     remaining-requires
     returns-2

@@ -1,20 +1,23 @@
 -- `desk::carry_out` meets its contract: the reading is that of the record, judged as the definition judges it, stepped and written back.
 use native.Mathlib.Omega.{arith}
 use mathlib.Core.Path.{_≡_, sym, ap, _∙_}
+use mathlib.Core.Bool.{Bool, _&&_}
+use mathlib.Core.List.{[], _∷_}
 use denote.Ref.{now}
 use Rattle.refusals.specs.declared.Answer.the-variants.{Accepted}
-use Rattle.refusals.specs.Refusals.{firstOf}
-use Rattle.table.specs.declared.transfer.Transfer.{Transfer}
+use Rattle.refusals.specs.declared.Refusal.the-variants.{Transfer as NoTransfer}
+use Rattle.refusals.specs.Refusals.{_⇒_, firstOf}
 use Rattle.table.specs.declared.reading.Reading.{Reading}
-use Rattle.table.specs.Reading.Laws.{input-high, major-sixteen}
+use Rattle.table.specs.Transfers.{majorIn}
+use Rattle.table.specs.Reading.Laws.{input-high}
 use Rattle.carried.specs.declared.record.Carried.{Carried}
-use Rattle.judging.specs.Judging.{readingCases, transferCases}
-use Rattle.engine.specs.declared.stepping.Stepped.{Stepped}
+use Rattle.judging.specs.Judging.{readingCases, badMajor}
+use Rattle.engine.specs.Sensing.{pvIn}
 use Rattle.engine.specs.Steps.{stepOf}
 use Rattle.engine.specs.Steps.Laws.{usable}
 use Rattle.engine.specs.Premises.{Usable}
-use Rattle.desk.specs.Desk.{Desk, lent, leftBy, readingBy, readingAt, stepAt, doneBy}
-use Rattle.desk.specs.Desk.Laws.{promised, judged-refused, written-back}
+use Rattle.desk.specs.Desk.{Desk, lent, readingBy, readingAt, stepAt, judgedAnswer}
+use Rattle.desk.specs.Desk.Laws.{promised, judged-refused, judged-past}
 use borrow.Author.Needs.{needs}
 use Rattle.desk.proofs.sampling.carry_out.Statement.{statement}
 use Rattle.desk.proofs.sampling.carry_out.Tie as tie
@@ -61,21 +64,50 @@ read : (c : tie.After-enum-told) → let a = start (c .before .before) .args in
 unfolding start
 read c = usable _ _ _ _ _ (start (c .before .before) .pre .1 .1 .profile .segment) (sym (judged (c .before .before)) ∙ accepted c)
 
-cast-step : tie.Need-cast-step
+cast-raw : tie.Need-cast-raw
 unfolding start
-cast-step c =
+cast-raw c =
     let a = start (c .before .before) .args in
     omega (arith, read c .input, input-high (now (a .words)) (a .number) (a .carried .state .mode) (a .carried .state .profile .segment))
 
+no-transfer-requires : tie.Need-no-transfer-requires
+no-transfer-requires c κs = search needs
+
+-- past N7 to N9 it is N11 that decides
+passed : (c : tie.After-no-transfer) → let j = c .before .before .before .before in
+    judgedAnswer (desk j) (start j .args .number) (start j .args .raw) ≡ firstOf ((c .no-transfer .result ⇒ NoTransfer) ∷ [])
+unfolding start
+passed c =
+    let e = c .before .before in
+    let j = e .before .before in
+    let d = desk j in
+    let k = start j .args .number in
+    let raw = start j .args .raw in
+    let from = j .before .read-loop .ensures ∙ own j in
+    judged-past (d .words) k (readingAt d k) raw (answered j ∙ accepted e)
+    ∙ sym (ap (λ (b : Bool). firstOf ((b ⇒ NoTransfer) ∷ []))
+    (c .no-transfer .ensures ∙ ap (λ (r : Reading). r .transfer && badMajor (majorIn (d .words) k (r .settings .pointer)) (pvIn r raw)) from))
+
+same-length : tie.Need-same-length
+same-length c = search needs
+
+returns : tie.Need-returns
+unfolding start
+returns c = promised _ _ (passed (c .before) ∙ rw (c .if1 .taken))
+
 step-requires : tie.Need-step-requires
 unfolding start
-step-requires c κs = let j = c .before .before in (rw (j .before .read-loop .ensures) (read c), start j .pre .1 .1)
+step-requires c κs =
+    let e = c .before .before .before in
+    let j = e .before .before in
+    (rw (j .before .read-loop .ensures) (read e), start j .pre .1 .1)
 
-stepped : (c : tie.After-step) → let a = start (c .before .before .before) .args in
+stepped : (c : tie.After-step) → let j = c .before .before .before .before .before .before in
+    let a = start j .args in
     c .step .result ≡ stepAt (lent (now (a .words)) (now (a .numbers))) (a .number) (a .raw)
 unfolding start
 stepped c =
-    let j = c .before .before .before in
+    let j = c .before .before .before .before .before .before in
     let s = start j in
     let a = s .args in
     c .step .ensures
@@ -84,46 +116,32 @@ stepped c =
 
 write-back-requires : tie.Need-write-back-requires
 unfolding start
-write-back-requires c κs =
-    let j = c .before .before .before .before .before in
-    let a = start j .args in
-    let p = start j .pre .0 in
-    let q = a .carried .state in
-    (p .0, p .1, p .2, rw (j .before .read-loop .ensures) (major-sixteen (now (a .words)) (a .number) (q .mode) (q .profile .segment)))
-
-same-length : tie.Need-same-length
-same-length c = search needs
-
-returns : tie.Need-returns
-unfolding start
-returns c =
-    let j = c .before .before .before in
-    promised _ _ (judged-refused (readingAt (desk j) (start j .args .number)) (start j .args .raw) (answered j ∙ c .before .answer .given .1))
+write-back-requires c κs = let p = start (c .before .before .before .before .before .before .before .before) .pre .0 in (p .0, p .1, p .2)
 
 same-length-2 : tie.Need-same-length-2
 same-length-2 c = search needs
 
-same-length-3 : tie.Need-same-length-3
-same-length-3 c = search needs
-
 returns-2 : tie.Need-returns-2
 unfolding start
 returns-2 c =
+    let j = c .before .before .before in
+    promised _ _ (judged-refused (desk j .words) (start j .args .number) (readingAt (desk j) (start j .args .number)) (start j .args .raw) (answered j ∙ c .before .answer .given .1))
+
+same-length-3 : tie.Need-same-length-3
+same-length-3 c = search needs
+
+same-length-4 : tie.Need-same-length-4
+same-length-4 c = search needs
+
+returns-3 : tie.Need-returns-3
+unfolding start
+returns-3 c =
     let b = c .before .before .before in
     let s = b .before .before .before in
-    let e = s .before in
-    let j = e .before .before in
-    let k = start j .args .number in
-    let raw = start j .args .raw in
-    let from : j .before .read-loop .result .transfer ≡ readingAt (desk j) k .transfer = ap (λ (r : Reading). r .transfer) (j .before .read-loop .ensures ∙ own j) in
-    let done = stepped s in
-    written-back (desk j) k raw (answered j ∙ accepted e)
-    (b .write-back .ensures .0
-    ∙ ap (λ (t : Transfer). firstOf (transferCases t (s .step .result .written .pv))) from
-    ∙ ap (λ (x : Stepped). firstOf (transferCases (readingAt (desk j) k .transfer) (x .written .pv))) done)
-    (b .write-back .ensures .1
-    ∙ ap (λ (t : Transfer). leftBy (b .write-back .result) (doneBy (desk j) k t (s .step .result)) (desk j)) from
-    ∙ ap (λ (x : Stepped). leftBy (b .write-back .result) (doneBy (desk j) k (readingAt (desk j) k .transfer) x) (desk j)) done)
+    let n = s .before .before in
+    let j = n .before .before .before .before in
+    let from = j .before .read-loop .ensures ∙ own j in
+    rw (b .write-back .ensures, from, stepped s) (promised _ _ (passed n ∙ rw (s .before .if1 .left)))
 
 pub carry-out-spec : {M : Type 1} → statement M
 carry-out-spec =
@@ -133,11 +151,14 @@ carry-out-spec =
     judge-requires
     enum-known-answer
     enum-told
-    cast-step
-    step-requires
-    write-back-requires
+    cast-raw
+    no-transfer-requires
     same-length
     returns
+    step-requires
+    write-back-requires
     same-length-2
+    returns-2
     same-length-3
-    returns-2)
+    same-length-4
+    returns-3)

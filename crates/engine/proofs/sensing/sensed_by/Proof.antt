@@ -5,8 +5,8 @@ use Rattle.engine.specs.Sensing.{sensedOf}
 use Rattle.engine.proofs.sensing.sensed_by.Statement.{statement}
 use Rattle.engine.proofs.sensing.sensed_by.Tie as tie
 
-measured-requires : tie.Need-measured-requires
-measured-requires c κs = search needs
+pv-in-requires : tie.Need-pv-in-requires
+pv-in-requires c κs = search needs
 
 enters-requires : tie.Need-enters-requires
 enters-requires c κs = search needs
@@ -51,14 +51,14 @@ returns c =
       t .before .runs-on .ensures,
       h .changes .ensures,
       n .enters .ensures,
-      n .before .measured .ensures,
+      n .before .pv-in .ensures,
     ))
 
 pub sensed-by-spec : {M : Type 1} → statement M
 sensed-by-spec =
     tie.close
     (tie.spec
-    measured-requires
+    pv-in-requires
     enters-requires
     changes-requires
     runs-on-requires

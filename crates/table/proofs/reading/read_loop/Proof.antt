@@ -35,9 +35,6 @@ read-remote-requires c κs = search needs
 is-transfer-requires : tie.Need-is-transfer-requires
 is-transfer-requires c κs = search needs
 
-read-transfer-requires : tie.Need-read-transfer-requires
-read-transfer-requires c κs = search needs
-
 add-at : tie.Need-add-at
 add-at c = search needs
 
@@ -54,11 +51,10 @@ returns : tie.Need-returns
 unfolding readingOf
 returns c =
     let t = c .before .before in
-    let r = t .before .before in
+    let r = t .before in
     simp (
       c .read-program .ensures,
-      t .read-transfer .ensures,
-      t .before .is-transfer .ensures,
+      t .is-transfer .ensures,
       r .read-remote .ensures,
       r .before .mode-after .ensures,
       r .before .before .before .read-settings .ensures,
@@ -80,7 +76,6 @@ read-loop-spec =
     mode-after-requires
     read-remote-requires
     is-transfer-requires
-    read-transfer-requires
     add-at
     mul-at
     shared-slice-read-at
