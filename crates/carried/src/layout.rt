@@ -104,8 +104,7 @@ fn outside(n: i64, low: i64, high: i64) -> bool
     (n < low) | (high < n)
 }
 
-// H5: a number of a record is out of range. The rows of H1, spelled out; the flags side by side, which the compiler
-// tests together.
+// H5: a number of a record is out of range. The rows of H1, spelled out.
 pub fn out_of_range(n: [i64; FIELDS]) -> bool
     ensures { λ r. ⌜ r ≡ outOfRange n ⌝ }
 {
@@ -120,9 +119,9 @@ pub fn out_of_range(n: [i64; FIELDS]) -> bool
         | outside(n[SEGMENT], 0, LAST_SEGMENT)
         | outside(n[HOLD], 0, ON)
         | outside(n[COMPLETE], 0, ON)
-        | outside(n[MARK], 0, ON)
         | outside(n[FRACTION], 0, MOST_FRACTION)
         | outside(n[TIME], 0, MOST_TIME)
+        | outside(n[MARK], 0, ON)
 }
 
 // The profile that numbers in range stand for.

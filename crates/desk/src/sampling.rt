@@ -56,13 +56,7 @@ fn hand_over(words: &mut [u16], numbers: &mut [i64], transfer: bool, major: u8, 
 }
 
 // What an accepted sample comes to, written.
-fn write_back(
-    words: &mut [u16],
-    numbers: &mut [i64],
-    number: u8,
-    reading: Reading,
-    done: Stepped,
-)
+fn write_back(words: &mut [u16], numbers: &mut [i64], number: u8, reading: Reading, done: Stepped)
     requires { ⌜ (length (now words) ≡ 1024) × (length (now numbers) ≡ numberCount) × (number ≤ 16) ⌝ }
     ensures { λ _. ⌜ lent (now (words .exit)) (now (numbers .exit)) ≡ doneBy (lent (now (words .entry)) (now (numbers .entry))) number reading done ⌝ }
 {

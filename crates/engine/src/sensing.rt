@@ -99,9 +99,12 @@ fn runs_on(program: Program, p: Profile) -> bool
 fn target_of(reading: Reading, change: bool, runs: bool, pv: u16) -> u16
     ensures { λ r. ⌜ r ≡ targetOf reading change runs pv ⌝ }
 {
+    if reading.transfer {
+        return pv;
+    }
     let mode = reading.mode;
     let automatic = is_automatic(mode);
-    if reading.transfer | (change & automatic & !reading.settings.mode1.bumpless & !runs) {
+    if change & automatic & !reading.settings.mode1.bumpless & !runs {
         pv
     } else {
         own_setpoint(reading)

@@ -1,8 +1,8 @@
 // Whether a sample is accepted, by what it read of the words: N7, N8 and N9; and N11, for which the PV has to be known.
 use refusals::Answer;
 use refusals::Refusal;
-use table::Mode1;
 use table::Major;
+use table::Mode1;
 use table::OutputLimits;
 use table::Reading;
 use table::Tuning;

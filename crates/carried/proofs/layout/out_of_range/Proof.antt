@@ -1,25 +1,14 @@
 -- `carried::out_of_range` meets its contract: each row's test is that of the number read back.
-use Prim.Native.Nat.{ℕ, _*_, _^_}
-use mathlib.Core.Path.{_≡_, refl, ap, _∙_}
-use mathlib.Core.Bool.{Bool, true, false, _||_}
+use Prim.Native.Nat.{_*_, _^_}
+use mathlib.Core.Path.{ap, _∙_}
 use lib.IntN.{pos, negℤ}
 use lib.ListN.{getD}
 use mir.Syntax.{w64}
 use mir.Facts.{toZ-ofZ}
-use Rattle.carried.specs.Layout.{Range, _to_, outsideRow, outOfRange}
+use Rattle.carried.specs.Layout.{_to_, outsideRow, outOfRange}
 use borrow.Author.Needs.{needs}
 use Rattle.carried.proofs.layout.out_of_range.Statement.{statement}
 use Rattle.carried.proofs.layout.out_of_range.Tie as tie
-
--- the mark's row is the last
-mark-last : (before mark fraction time : Bool) → (before || mark || fraction || time) ≡ (before || fraction || time || mark)
-mark-last true mark fraction time = refl
-mark-last false true true time = refl
-mark-last false true false true = refl
-mark-last false true false false = refl
-mark-last false false true time = refl
-mark-last false false false true = refl
-mark-last false false false false = refl
 
 array-copy-out-outside : tie.Need-array-copy-out-outside
 array-copy-out-outside c = search needs
@@ -122,7 +111,6 @@ returns c =
     let c2 = c3 .before .before in
     let c1 = c2 .before .before in
     let l = c1 .before .before .args .t1 in
-    let out : Range → ℕ → Bool = λ r i. outsideRow r (getD l i (pos 0)) in
     simp (
       c1 .outside .ensures ∙ ap (outsideRow (pos 0 to pos 2)) (toZ-ofZ {w = w64} {z = getD l 0 (pos 0)} (search needs)),
       c2 .outside2 .ensures ∙ ap (outsideRow (negℤ (pos (2 ^ 52)) to pos (2 ^ 52))) (toZ-ofZ {w = w64} {z = getD l 1 (pos 0)} (search needs)),
@@ -135,12 +123,10 @@ returns c =
       c9 .outside9 .ensures ∙ ap (outsideRow (pos 0 to pos 16)) (toZ-ofZ {w = w64} {z = getD l 8 (pos 0)} (search needs)),
       c10 .outside10 .ensures ∙ ap (outsideRow (pos 0 to pos 1)) (toZ-ofZ {w = w64} {z = getD l 9 (pos 0)} (search needs)),
       c11 .outside11 .ensures ∙ ap (outsideRow (pos 0 to pos 1)) (toZ-ofZ {w = w64} {z = getD l 10 (pos 0)} (search needs)),
-      c12 .outside12 .ensures ∙ ap (outsideRow (pos 0 to pos 1)) (toZ-ofZ {w = w64} {z = getD l 13 (pos 0)} (search needs)),
-      c13 .outside13 .ensures ∙ ap (outsideRow (pos 0 to pos 9999)) (toZ-ofZ {w = w64} {z = getD l 11 (pos 0)} (search needs)),
-      c .outside14 .ensures ∙ ap (outsideRow (pos 0 to pos 6000000)) (toZ-ofZ {w = w64} {z = getD l 12 (pos 0)} (search needs)),
+      c12 .outside12 .ensures ∙ ap (outsideRow (pos 0 to pos 9999)) (toZ-ofZ {w = w64} {z = getD l 11 (pos 0)} (search needs)),
+      c13 .outside13 .ensures ∙ ap (outsideRow (pos 0 to pos 6000000)) (toZ-ofZ {w = w64} {z = getD l 12 (pos 0)} (search needs)),
+      c .outside14 .ensures ∙ ap (outsideRow (pos 0 to pos 1)) (toZ-ofZ {w = w64} {z = getD l 13 (pos 0)} (search needs)),
     )
-    (mark-last (out (pos 0 to pos 2) 0 || out (negℤ (pos (2 ^ 52)) to pos (2 ^ 52)) 1 || out (pos 0 to pos (65535 * 262144)) 2 || out (pos 0 to pos 65535) 3 || out (pos 0 to pos 65535) 4 || out (negℤ (pos 65535) to pos 65535) 5 || out (pos 0 to pos 1) 6 || out (pos 0 to pos 1) 7 || out (pos 0 to pos 16) 8 || out (pos 0 to pos 1) 9 || out (pos 0 to pos 1) 10)
-    (out (pos 0 to pos 1) 13) (out (pos 0 to pos 9999) 11) (out (pos 0 to pos 6000000) 12))
 
 pub out-of-range-spec : {M : Type 1} → statement M
 out-of-range-spec =
