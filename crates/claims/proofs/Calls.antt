@@ -18,9 +18,12 @@ use Rattle.refusals.specs.Refusals.{numberOf, _⇒_, firstOf}
 use Rattle.refusals.specs.Refusals.Laws.{in-table, accepted-only, first-of-kind}
 use Rattle.table.specs.declared.reading.Reading.{Reading}
 use Rattle.table.specs.Words.{any}
+use Rattle.table.specs.declared.transfer.Major.{Major}
 use Rattle.table.specs.Transfers.{majorIn}
+use Rattle.table.specs.Transfers.Laws.{major-read}
 use Rattle.carried.specs.Layout.{fieldCount, numberCount, slotOf, numbersAt, recordAt, outOfRange}
 use Rattle.judging.specs.Judging.{badMajor}
+use Rattle.judging.specs.Judging.Laws.{Handed, major-good, good-major}
 use Rattle.engine.specs.Sensing.{pvIn}
 use Rattle.desk.specs.Desk.{Desk, lent, fittingOf, memoryCases, noLoop, resetAnswer, resetLeft, engineWord, storeCases, storeAnswer, storeLeft, readingAt, judgedCases, sampleCases, sampleAnswer, remainingOf, countedBy, forecastAt, copiedBy, fieldsAnswer, fieldsLeft}
 use Rattle.desk.specs.Desk.Laws.{sound, there-loop, answer-ranged, reset-sound, reset-numbers}
@@ -30,7 +33,7 @@ use Rattle.kexbardi.specs.Interface.{lineLeft}
 use Rattle.kexbardi_profiles.specs.Told.{toldBy}
 use Rattle.setups.specs.Setup.{setupOf, setupAnswer, setupLeft}
 use Rattle.kexbardi_files.specs.Files.{filled, setupFilled}
-use Rattle.claims.specs.Calls.{Answered, Reserved, pv, bias, status, profile, Settled, Rows, Called}
+use Rattle.claims.specs.Calls.{Answered, Reserved, pv, bias, status, profile, Settled, transferAt, pvAt, ToMajor, Rows, Called}
 
 -- the answer to a call is 0, a number up to 9, or 11
 pub told : (d : Desk) (call : Call) → Answered (numberOf (answerTo d call))
@@ -136,6 +139,35 @@ module _ (ws : List ℕ) (k : ℕ) (r : Reading) (raw : ℕ) where
   too-high : Settled r → r .settings .mode2 .input .scale < raw → numberOf (firstOf (judgedCases ws k r raw)) ≡ 9
   too-high p h = rw (p .digit, p .modes, p .ends, p .times, p .limits, p .setpoint, lt-ltb (r .settings .mode2 .input .scale) raw h)
 
+-- N11 by the limits that were read, and by the words where they stand
+module _ (d : Desk) (k raw : ℕ) where
+  abbrev pub read : Major
+  read = majorIn (d .words) k (readingAt d k .settings .pointer)
+
+  from-major : ToMajor d k raw → Handed read (pvAt d k raw)
+  unfolding majorIn
+  from-major m = let e = major-read (d .words) k (readingAt d k .settings .pointer) (m .major) in record { number = m .major; low = rw (e .1) (m .low); high = rw (e .2) (m .high) }
+
+  pub to-major : Handed read (pvAt d k raw) → ToMajor d k raw
+  unfolding majorIn
+  to-major m = let e = major-read (d .words) k (readingAt d k .settings .pointer) (m .number) in record { major = m .number; low = rw (e .1) at (m .low); high = rw (e .2) at (m .high) }
+
+  -- a sample that is no transfer passes it
+  pub passing-major : (transferAt d k ≡ true → ToMajor d k raw) → (transferAt d k && badMajor read (pvAt d k raw)) ≡ false
+  passing-major h = go (transferAt d k) refl
+    where
+      go : (b : Bool) → transferAt d k ≡ b → (b && badMajor read (pvAt d k raw)) ≡ false
+      go true on = good-major read (pvAt d k raw) (from-major (h on))
+      go false off = refl
+
+  -- and one that has no such loop does not
+  no-major : transferAt d k ≡ true → (ToMajor d k raw → ⊥) → (transferAt d k && badMajor read (pvAt d k raw)) ≡ true
+  no-major on none = rw on (go (badMajor read (pvAt d k raw)) refl)
+    where
+      go : (b : Bool) → badMajor read (pvAt d k raw) ≡ b → badMajor read (pvAt d k raw) ≡ true
+      go true e = e
+      go false e = absurd (none (to-major (major-good read (pvAt d k raw) e)))
+
 module _ (d : Desk) (k raw : ℕ) (fit : fittingOf d ≡ true) where
   no-loop : ((1 ≤ k) × (k ≤ 16) → ⊥) → numberOf (sampleAnswer d k raw) ≡ 4
   unfolding sampleAnswer
@@ -148,7 +180,7 @@ module _ (d : Desk) (k raw : ℕ) (fit : fittingOf d ≡ true) where
     reading = λ above below e.
         let r = readingAt d k in
         let a : sampleAnswer d k raw ≡ firstOf (judgedCases (d .words) k (readingAt d k) raw) = answer-ranged d k raw fit above below ∙ rw e in
-        rw a (digit (d .words) k r raw, setting (d .words) k r raw, too-high (d .words) k r raw, not-over (d .words) k r raw);
+        rw a (digit (d .words) k r raw, setting (d .words) k r raw, too-high (d .words) k r raw, λ p h on none. not-over (d .words) k r raw p h (no-major d k raw on none));
   }
 
 -- ---- forecasts

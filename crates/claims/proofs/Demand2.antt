@@ -18,12 +18,12 @@ use Rattle.table.specs.Words.{baseOf, blockAt}
 use Rattle.table.specs.Words.Laws.{block-at}
 use Rattle.table.specs.declared.transfer.Major.{Major}
 use Rattle.table.specs.Transfers.{majorOf, majorIn}
-use Rattle.table.specs.Transfers.Laws.{major-read, major-local}
+use Rattle.table.specs.Transfers.Laws.{major-local}
 use Rattle.table.specs.Reading.Laws.{numbered, reading-local}
 use Rattle.carried.specs.declared.record.Carried.{Carried}
 use Rattle.carried.specs.Layout.{slotOf, outOfRange, recordFrom, numbersOf, numbersAt, recordAt}
 use Rattle.judging.specs.Judging.{readingCases, badMajor, transferCases, Passed}
-use Rattle.judging.specs.Judging.Laws.{passed, passing, Handed, good-major}
+use Rattle.judging.specs.Judging.Laws.{passed, passing}
 use Rattle.engine.specs.declared.stepping.Stepped.{Stepped}
 use Rattle.engine.specs.Sensing.{pvIn, setpointOf, targetOf, profiledOf, faultAfter, sensedOf}
 use Rattle.engine.specs.Driving.{drivenOf}
@@ -37,31 +37,12 @@ use Rattle.session.specs.Session.{begun as started, callsOf, leftOf}
 use Rattle.session.specs.Session.Laws.{run-desk}
 use Rattle.kexbardi.specs.Interface.{lineLeft}
 use Rattle.claims.specs.Turns.{Made, one, file, Turn, found, madeLeft, behind, behindAll}
-use Rattle.claims.specs.Demand2.{transferAt, majorAt, pvAt, ToMajor, Acceptable, Other, Done, Agree, InRange, Demand2}
+use Rattle.claims.specs.Calls.{transferAt, majorAt, pvAt}
+use Rattle.claims.specs.Demand2.{Acceptable, Other, Done, Agree, InRange, Demand2}
+use Rattle.claims.proofs.Calls.{read, to-major, passing-major}
 use Rattle.claims.proofs.Turns.{unfit-behind, record-found, record-behind}
 
 -- ---- when it is accepted
-
--- N11 by the limits that were read, and by the words where they stand
-module _ (d : Desk) (k raw : ℕ) where
-  abbrev read : Major
-  read = majorIn (d .words) k (readingAt d k .settings .pointer)
-
-  from-major : ToMajor d k raw → Handed read (pvAt d k raw)
-  unfolding majorIn
-  from-major m = let e = major-read (d .words) k (readingAt d k .settings .pointer) (m .major) in record { number = m .major; low = rw (e .1) (m .low); high = rw (e .2) (m .high) }
-
-  to-major : Handed read (pvAt d k raw) → ToMajor d k raw
-  unfolding majorIn
-  to-major m = let e = major-read (d .words) k (readingAt d k .settings .pointer) (m .number) in record { major = m .number; low = rw (e .1) at (m .low); high = rw (e .2) at (m .high) }
-
-  -- a sample that is no transfer passes it
-  passing-major : (transferAt d k ≡ true → ToMajor d k raw) → (transferAt d k && badMajor read (pvAt d k raw)) ≡ false
-  passing-major h = go (transferAt d k) refl
-    where
-      go : (b : Bool) → transferAt d k ≡ b → (b && badMajor read (pvAt d k raw)) ≡ false
-      go true on = good-major read (pvAt d k raw) (from-major (h on))
-      go false off = refl
 
 acceptable : (d : Desk) (k raw : ℕ) → Acceptable d k raw → numberOf (sampleAnswer d k raw) ≡ 0
 acceptable d k raw a =

@@ -6,6 +6,7 @@ use Rattle.numbers.specs.Roots.{rootOf}
 use Rattle.numbers.proofs.Examples as numbers
 use Rattle.reader.specs.File.{recordsOf}
 use Rattle.reader.proofs.Examples as reader
+use Rattle.table.specs.declared.mode.Mode.the-variants.{Manual, Automatic, Cascade}
 use Rattle.judging.proofs.Examples as judging
 use Rattle.profile.proofs.Examples as profile
 use Rattle.engine.proofs.Starred as starred
@@ -27,6 +28,11 @@ records-read = reader.all-cases .0
 -- N7 to N9 at their edges
 pub settings-judged : let cases = judging.cases ++ judging.tables in map judging.answer cases ≡ map (λ (c : judging.Case). c .number) cases
 settings-judged = judging.computed
+
+-- N11 at its edges, from Automatic; from Manual and in Cascade the same sample is no transfer
+pub transfers-judged : (map (judging.answer-from Automatic) judging.handing ≡ map (λ (c : judging.Case). c .number) judging.handing)
+    × (judging.answer-from Manual judging.low-pv ≡ 0) × (judging.answer-from Cascade judging.low-pv ≡ 0)
+transfers-judged = judging.computed-handing
 
 -- G4 to G12: a profile, sample by sample
 pub profile-moved : profile.rows profile.fresh 0 profile.oven ≡ profile.expected profile.oven

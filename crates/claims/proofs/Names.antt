@@ -6,12 +6,12 @@ use borrow.Author.Tests.{eq-eqb, ne-eqb, lt-ltb, le-ltb}
 use Rattle.refusals.specs.declared.Answer.{Answer}
 use Rattle.refusals.specs.declared.Answer.the-variants.{Accepted, Refused}
 use Rattle.carried.specs.Layout.Laws.{read-back, rows-in, in-rows}
-use Rattle.plain.specs.Plain.{plainMarked}
+use Rattle.plain.specs.Plain.{begun, plainMarked}
 use Rattle.desk.specs.Desk.{Desk, remainingOf}
 use Rattle.desk.specs.Desk.Laws.{reset-numbers}
 use Rattle.desk.specs.Lists.{store, sample, answerTo, deskAfter, deskBehind, Plains, sampledAll, fedBy, fed, plainsBehind}
 use Rattle.session.specs.Session.{runOf, callsOf}
-use Rattle.claims.specs.Turns.{behindAll, fedAll}
+use Rattle.claims.specs.Turns.{madeLeft, behindAll, fedMade, fedAll}
 use Rattle.claims.specs.Names.{OfPlaces, OfCalls, OfPlains, Names}
 
 places : OfPlaces
@@ -48,7 +48,7 @@ module _ (qs : Plains) (d : Desk) where
   of-store (Refused why) address value = refl
 
   beside : OfPlains qs d
-  unfolding fed sampledAll plainsBehind fedAll behindAll deskAfter
+  unfolding begun fed sampledAll plainsBehind fedMade madeLeft fedAll behindAll deskAfter
   beside = record {
     begins = λ k. refl;
     refused = λ call why e. rw e;
@@ -58,6 +58,7 @@ module _ (qs : Plains) (d : Desk) where
     anew = λ e. rw e;
     none = refl;
     more = λ call calls. refl;
+    direct = λ call. (refl, refl);
     no-turn = (refl, refl);
     turn = λ t ts. (refl, refl);
   }

@@ -1,7 +1,7 @@
 -- What is promised of the transfer, proved.
 use Prim.Native.Nat.{ℕ, _+_, _≤_}
 use mathlib.Core.Path.{_≡_, refl, sym, _∙_}
-use mathlib.Core.Bool.{Bool, true, false, not, _&&_, _||_, or-true}
+use mathlib.Core.Bool.{Bool, true, false, not, _&&_, or-true, and-false}
 use lib.ListN.{getD}
 use borrow.Author.Tests.{not-true}
 use Rattle.refusals.specs.Refusals.{numberOf}
@@ -20,7 +20,7 @@ use Rattle.engine.specs.Sensing.{changed, entering, targetOf, profiledOf, sense
 use Rattle.engine.specs.Writing.{writtenOf}
 use Rattle.engine.specs.Steps.{stepOf}
 use Rattle.desk.specs.Desk.{Desk, readingAt, stepAt, sampleAnswer, sampleLeft}
-use Rattle.claims.specs.Demand2.{transferAt, majorAt, pvAt}
+use Rattle.claims.specs.Calls.{transferAt, majorAt, pvAt}
 use Rattle.claims.specs.Transfers.{Bumpless, Transferred}
 use Rattle.claims.proofs.Demand2.{demand-2}
 
@@ -76,18 +76,20 @@ settled d k raw on =
     let cascade : isCascade (readingAt d k .mode) ≡ true = rw (only-one d k on .after) in
     (rw (cascade, on), refl)
 
-no-entry : (d : Desk) (k raw : ℕ) → transferAt d k ≡ true → let state = recordAt (d .numbers) k .state in
-    let r = readingAt d k in
-    changed state (r .settings .mode1 .velocity) ≡ false → state .mark ≡ false → sensedOf r state raw .entry ≡ false
-unfolding sensedOf entering
-no-entry d k raw on same off = rw (same, off, only-one d k on .after)
-
 -- ---- what a mark does
 
 module _ (r : Reading) (state : State) (raw : ℕ) where
-  marked-entry : state .mark ≡ true → isManual (r .mode) ≡ false → (sensedOf r state raw .entry ≡ true) × (sensedOf r state raw .state .mark ≡ false)
+  no-entry : changed state (r .settings .mode1 .velocity) ≡ false → state .mark ≡ false → sensedOf r state raw .entry ≡ false
+  unfolding sensedOf entering
+  no-entry same off = rw (same, off) (and-false (not (isManual (r .mode))))
+
+  marked-entry : state .mark ≡ true → isManual (r .mode) ≡ false → sensedOf r state raw .entry ≡ true
   unfolding sensedOf entering changed
-  marked-entry on automatic = (rw (on, automatic) (or-true (changed state (r .settings .mode1 .velocity))), rw automatic)
+  marked-entry on automatic = rw (on, automatic) (or-true (changed state (r .settings .mode1 .velocity)))
+
+  taken-off : isManual (r .mode) ≡ false → sensedOf r state raw .state .mark ≡ false
+  unfolding sensedOf
+  taken-off automatic = rw automatic
 
   kept-manual : isManual (r .mode) ≡ true → (sensedOf r state raw .entry ≡ false) × (sensedOf r state raw .state .mark ≡ state .mark)
   unfolding sensedOf entering
@@ -102,8 +104,9 @@ transferred = record {
   none = major-none;
   inside = kept-inside;
   settles = settled;
-  enters = no-entry;
+  unmarked = no-entry;
   entry = marked-entry;
+  cleared = taken-off;
   manual = kept-manual;
-  unforced = λ r state raw. (refl, refl, refl);
+  unforced = λ r state raw. (refl, refl, refl, refl, refl, refl);
 }

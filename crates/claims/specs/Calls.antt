@@ -1,20 +1,21 @@
 -- What every direct call (Q1 to Q4, Q11, Q12) answers and leaves, on memory of any lengths.
-use Prim.Native.Nat.{ℕ, _%_, _≤_, _<_}
+use Prim.Native.Nat.{ℕ, _+_, _%_, _≤_, _<_}
 use mathlib.Core.Path.{_≡_}
-use mathlib.Core.Bool.{true, false, _&&_, _||_}
+use mathlib.Core.Bool.{Bool, true, false, _||_}
 use mathlib.Core.Logic.{_⊎_}
 use mathlib.Core.List.{List}
 use lib.IntN.{ℤ, pos}
-use lib.ListN.{length, set, replicate}
+use lib.ListN.{length, getD, set, replicate}
 use lib.Seq.{sets}
 use Rattle.refusals.specs.declared.Answer.{Answer}
 use Rattle.refusals.specs.declared.Answer.the-variants.{Accepted}
 use Rattle.refusals.specs.Refusals.{numberOf}
 use Rattle.table.specs.declared.reading.Reading.{Reading}
+use Rattle.table.specs.Words.{baseOf}
 use Rattle.table.specs.Modes.{isCascade}
-use Rattle.table.specs.Transfers.{majorIn}
+use Rattle.table.specs.Transfers.{majorOf}
 use Rattle.carried.specs.Layout.{fieldCount, numberCount, slotOf, numbersAt, recordAt, outOfRange}
-use Rattle.judging.specs.Judging.{badModes, badTimes, badLimits, badSetpoint, badMajor}
+use Rattle.judging.specs.Judging.{badModes, badTimes, badLimits, badSetpoint}
 use Rattle.engine.specs.Sensing.{pvIn}
 use Rattle.desk.specs.Desk.{Desk, lent, fittingOf, resetAnswer, resetLeft, storeAnswer, storeLeft, readingAt, sampleAnswer, sampleLeft, remainingOf, forecastAt, fieldsAnswer, fieldsLeft}
 use Rattle.desk.specs.Lists.{Call, answerTo}
@@ -43,6 +44,22 @@ pub record Settled (r : Reading) : Type 0 where
   pub limits : badLimits (r .settings .limits) (r .settings .mode2 .output .scale) ≡ false
   pub setpoint : badSetpoint (isCascade (r .mode)) (r .settings .mode2 .input .scale) (r .settings .stored .setpoint) (r .settings .pointer) (r .remote) ≡ false
 
+-- A13: whether a sample of loop k is a transfer; the major loop, 0 where there is none; and p
+abbrev pub transferAt : Desk → ℕ → Bool
+transferAt d k = readingAt d k .transfer
+
+abbrev pub majorAt : Desk → ℕ → ℕ
+majorAt d k = majorOf k (readingAt d k .settings .pointer)
+
+abbrev pub pvAt : Desk → ℕ → ℕ → ℕ
+pvAt d k raw = pvIn (readingAt d k) raw
+
+-- N11: there is a major loop, and p is inside its output limits, words 24 and 25, as they are stored
+pub record ToMajor (d : Desk) (k raw : ℕ) : Type 0 where
+  pub major : majorAt d k ≡ 0 → ⊥
+  pub low : getD (d .words) (baseOf (majorAt d k) + 24) 0 ≤ pvAt d k raw
+  pub high : pvAt d k raw ≤ getD (d .words) (baseOf (majorAt d k) + 25) 0
+
 -- O3, O4: the numbers of a sample's refusals on memory of the right lengths, each where none before it holds
 pub record Rows (d : Desk) (k raw : ℕ) : Type 0 where
   pub loop : ((1 ≤ k) × (k ≤ 16) → ⊥) → numberOf (sampleAnswer d k raw) ≡ 4
@@ -51,7 +68,7 @@ pub record Rows (d : Desk) (k raw : ℕ) : Type 0 where
       ((r .settings .baddigit || r .program .baddigit) ≡ true → numberOf (sampleAnswer d k raw) ≡ 7)
       × ((r .settings .baddigit || r .program .baddigit) ≡ false → (Settled r → ⊥) → numberOf (sampleAnswer d k raw) ≡ 8)
       × (Settled r → r .settings .mode2 .input .scale < raw → numberOf (sampleAnswer d k raw) ≡ 9)
-      × (Settled r → raw ≤ r .settings .mode2 .input .scale → (r .transfer && badMajor (majorIn (d .words) k (r .settings .pointer)) (pvIn r raw)) ≡ true → numberOf (sampleAnswer d k raw) ≡ 11)
+      × (Settled r → raw ≤ r .settings .mode2 .input .scale → transferAt d k ≡ true → (ToMajor d k raw → ⊥) → numberOf (sampleAnswer d k raw) ≡ 11)
 
 pub record Called : Type 0 where
   -- N5: the lengths are 1,024 words and the records' numbers

@@ -4,7 +4,7 @@
 -- and its two output limits (Q9): loop 9 set up like loop 1 answers alike. And a record in range never leaves its ranges, whatever is called (E8).
 use Prim.Native.Nat.{ℕ, _+_, _≤_}
 use mathlib.Core.Path.{_≡_}
-use mathlib.Core.Bool.{Bool, true, false}
+use mathlib.Core.Bool.{true, false}
 use mathlib.Core.List.{List}
 use lib.IntN.{pos}
 use lib.ListN.{length, getD, set}
@@ -13,28 +13,11 @@ use Rattle.table.specs.Words.{baseOf, blockAt}
 use Rattle.table.specs.Modes.{isCascade}
 use Rattle.table.specs.Transfers.{majorOf}
 use Rattle.table.specs.Reading.{tableOf}
-use Rattle.engine.specs.Sensing.{pvIn}
 use Rattle.carried.specs.Layout.{slotOf, outOfRange, numbersOf, numbersAt}
 use Rattle.desk.specs.Desk.{Desk, fittingOf, readingAt, stepAt, sampleAnswer, sampleLeft, lineOf}
 use Rattle.kexbardi.specs.Interface.{lineLeft}
 use Rattle.claims.specs.Turns.{Turn, behindAll}
-use Rattle.claims.specs.Calls.{Settled}
-
--- A13: whether a sample of loop k is a transfer; the major loop, 0 where there is none; and p
-abbrev pub transferAt : Desk → ℕ → Bool
-transferAt d k = readingAt d k .transfer
-
-abbrev pub majorAt : Desk → ℕ → ℕ
-majorAt d k = majorOf k (readingAt d k .settings .pointer)
-
-abbrev pub pvAt : Desk → ℕ → ℕ → ℕ
-pvAt d k raw = pvIn (readingAt d k) raw
-
--- N11: there is a major loop, and p is inside its output limits, words 24 and 25, as they are stored
-pub record ToMajor (d : Desk) (k raw : ℕ) : Type 0 where
-  pub major : majorAt d k ≡ 0 → ⊥
-  pub low : getD (d .words) (baseOf (majorAt d k) + 24) 0 ≤ pvAt d k raw
-  pub high : pvAt d k raw ≤ getD (d .words) (baseOf (majorAt d k) + 25) 0
+use Rattle.claims.specs.Calls.{Settled, transferAt, majorAt, pvAt, ToMajor}
 
 -- O3: no refusal holds: the memory has its lengths, there is such a loop, its record is in range, and what is read passes N7, N8, N9 and N11
 pub record Acceptable (d : Desk) (k raw : ℕ) : Type 0 where
@@ -93,7 +76,7 @@ pub record Demand2 : Type 0 where
   -- O3: accepted exactly where no refusal holds
   pub accepted : (d : Desk) (k raw : ℕ) → Acceptable d k raw → numberOf (sampleAnswer d k raw) ≡ 0
   pub only : (d : Desk) (k raw : ℕ) → numberOf (sampleAnswer d k raw) ≡ 0 → Acceptable d k raw
-  -- A1 to A13, word for word and number for number. Q3: the line shows the words after it
+  -- A1 to A12, word for word and number for number. Q3: the line shows the words after it
   pub exact : (d : Desk) (k raw : ℕ) → numberOf (sampleAnswer d k raw) ≡ 0 → Done d (sampleLeft d k raw) k raw
   pub line : (d : Desk) (k raw : ℕ) (line : List ℕ) → numberOf (sampleAnswer d k raw) ≡ 0 → lineLeft d k raw line ≡ lineOf (sampleLeft d k raw .words) k
   -- A13: at a transfer the word pointed to, which is the major loop's output, becomes p; and of its record number 13 becomes 1

@@ -8,6 +8,7 @@ use mathlib.Core.List.{List, [], _∷_}
 use lib.Dec.{eqb}
 use lib.IntN.{ℤ, pos}
 use lib.ListN.{length, getD, take, drop, replicate}
+use Rattle.numbers.specs.Fractions.{whole}
 use Rattle.refusals.specs.declared.Refusal.{Refusal}
 use Rattle.refusals.specs.declared.Answer.the-variants.{Accepted}
 use Rattle.refusals.specs.declared.Answer.the-variants.{Refused as No}
@@ -24,13 +25,13 @@ use Rattle.carried.specs.declared.record.Carried.{Carried}
 use Rattle.carried.specs.Layout.{fieldCount, numberCount, slotOf, outOfRange, numbersOf, recordFrom, numbersAt, recordAt}
 use Rattle.carried.specs.Layout.Laws.{Rows}
 use Rattle.engine.specs.Steps.{stepOf}
-use Rattle.plain.specs.Plain.{Plain, begun, plainAfter, plainMarked}
+use Rattle.plain.specs.Plain.{Plain, plainAfter, plainMarked}
 use Rattle.desk.specs.Desk.{Desk, lent, resetDesk, resetAnswer, resetLeft, storeAnswer, storeLeft, readingAt, stepAt, marks, sampleAnswer, sampleLeft, remainingOf, lineOf}
 use Rattle.desk.specs.Lists.{Call, reset, store, sample, answerTo, deskAfter, deskBehind, Plains, begunAll, fed, plainsBehind}
 use Rattle.session.specs.Session.{numberFor, leftFor, shownFor, runOf, callsOf}
 use Rattle.session.specs.Session.{begun as started}
 use Rattle.session.specs.Printed.{roomFor}
-use Rattle.claims.specs.Turns.{Turn, found, behind, behindAll, fedMade, fedAll}
+use Rattle.claims.specs.Turns.{one, Turn, found, madeLeft, behind, behindAll, fedMade, fedAll}
 
 -- L1, W1, H1, H4: places of a word in a file, of a loop's words and of its record
 pub record OfPlaces : Type 0 where
@@ -59,7 +60,8 @@ pub record OfCalls (d : Desk) : Type 0 where
 
 -- E3: the plain loops beside them, that of loop k at k
 pub record OfPlains (qs : Plains) (d : Desk) : Type 0 where
-  pub begins : (k : ℕ) → begunAll (d .numbers) k ≡ begun (recordAt (d .numbers) k)
+  pub begins : (k : ℕ) → let c = recordAt (d .numbers) k in
+      begunAll (d .numbers) k ≡ record { state = c .state; last = 0; B = whole (pos 0); n = 0; output = whole (pos 0) }
   pub refused : (call : Call) (why : Refusal) → answerTo d call ≡ No why → fed qs d call ≡ qs
   pub own : (k raw : ℕ) → answerTo d (sample k raw) ≡ Accepted
       → fed qs d (sample k raw) k ≡ plainAfter (qs k) (readingOf (d .words) k (qs k .state .mode) (qs k .state .profile .segment)) raw
@@ -71,6 +73,7 @@ pub record OfPlains (qs : Plains) (d : Desk) : Type 0 where
   pub anew : answerTo d reset ≡ Accepted → fed qs d reset ≡ begunAll (resetLeft d .numbers)
   pub none : plainsBehind qs d [] ≡ qs
   pub more : (call : Call) (calls : List Call) → plainsBehind qs d (call ∷ calls) ≡ plainsBehind (fed qs d call) (deskAfter d call) calls
+  pub direct : (call : Call) → (fedMade qs d (one call) ≡ fed qs d call) × (madeLeft d (one call) ≡ deskAfter d call)
   pub no-turn : (fedAll qs d [] ≡ qs) × (behindAll d [] ≡ d)
   pub turn : (t : Turn) (ts : List Turn) → (fedAll qs d (t ∷ ts) ≡ fedAll (fedMade qs (found d t) (t .made)) (behind d t) ts)
       × (behindAll d (t ∷ ts) ≡ behindAll (behind d t) ts)

@@ -14,7 +14,7 @@ use Rattle.carried.specs.declared.record.State.{State}
 use Rattle.carried.specs.Layout.{recordAt, marked}
 use Rattle.engine.specs.Sensing.{changed, sensedOf}
 use Rattle.desk.specs.Desk.{Desk, readingAt, stepAt, sampleAnswer, sampleLeft}
-use Rattle.claims.specs.Demand2.{transferAt, majorAt, pvAt}
+use Rattle.claims.specs.Calls.{transferAt, majorAt, pvAt}
 
 -- A13: the carried mode, the sample's mode, and bit 3 of mode 1
 pub record Bumpless (d : Desk) (k : ℕ) : Type 0 where
@@ -36,16 +36,17 @@ pub record Transferred : Type 0 where
   -- A13: the minor loop's setpoint and PV are both p
   pub settles : (d : Desk) (k raw : ℕ) → transferAt d k ≡ true
       → (stepAt d k raw .written .setpoint ≡ pvAt d k raw) × (stepAt d k raw .written .pv ≡ pvAt d k raw)
-  -- it is an entry of the minor loop only by a change of form, or a mark of its own
-  pub enters : (d : Desk) (k raw : ℕ) → transferAt d k ≡ true → let state = recordAt (d .numbers) k .state in
-      let r = readingAt d k in
-      changed state (r .settings .mode1 .velocity) ≡ false → state .mark ≡ false → sensedOf r state raw .entry ≡ false
-  -- A4, A11: with a mark a sample outside Manual is an entry and takes it off; one in Manual is none and keeps it
-  pub entry : (r : Reading) (state : State) (raw : ℕ) → state .mark ≡ true → isManual (r .mode) ≡ false
-      → (sensedOf r state raw .entry ≡ true) × (sensedOf r state raw .state .mark ≡ false)
+  -- A4: without a mark a sample is an entry only from Manual or by a change of form, a transfer too; with one it is, but in Manual
+  pub unmarked : (r : Reading) (state : State) (raw : ℕ) → changed state (r .settings .mode1 .velocity) ≡ false → state .mark ≡ false
+      → sensedOf r state raw .entry ≡ false
+  pub entry : (r : Reading) (state : State) (raw : ℕ) → state .mark ≡ true → isManual (r .mode) ≡ false → sensedOf r state raw .entry ≡ true
+  -- A11: no sample outside Manual leaves a mark of its own loop, a transfer neither; one in Manual is no entry, and keeps a mark
+  pub cleared : (r : Reading) (state : State) (raw : ℕ) → isManual (r .mode) ≡ false → sensedOf r state raw .state .mark ≡ false
   pub manual : (r : Reading) (state : State) (raw : ℕ) → isManual (r .mode) ≡ true
       → (sensedOf r state raw .entry ≡ false) × (sensedOf r state raw .state .mark ≡ state .mark)
-  -- A4: a mark forces no setpoint: PV, setpoint and error are those that they would be without it
+  -- A4: a mark forces no setpoint, and moves nothing else but the entry: PV, setpoint, error, words 27 and 29, mode, form and profile are those that
+  -- they would be without it
   pub unforced : (r : Reading) (state : State) (raw : ℕ) → let x = sensedOf r (marked state) raw in
       let y = sensedOf r state raw in
-      (x .pv ≡ y .pv) × (x .setpoint ≡ y .setpoint) × (x .error ≡ y .error)
+      (x .pv ≡ y .pv) × (x .setpoint ≡ y .setpoint) × (x .error ≡ y .error) × (x .flags ≡ y .flags) × (x .fault ≡ y .fault)
+      × (marked (x .state) ≡ marked (y .state))

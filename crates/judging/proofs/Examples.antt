@@ -1,17 +1,18 @@
--- Refusals N7, N8 and N9 computed of the definitions: each number of a setting on both sides of its edge, several conditions at once, the
--- examples of the three rules, and the words of a ramp/soak table.
+-- Refusals N7, N8, N9 and N11 computed of the definitions: each number of a setting on both sides of its edge, several conditions at once, the
+-- examples of the first three rules, the words of a ramp/soak table, and the pointers, limits and modes of a transfer.
 use Prim.Native.Nat.{ℕ, _+_}
 use mathlib.Core.Path.{_≡_, refl}
 use mathlib.Core.List.{List, [], _∷_, _++_, map}
 use lib.ListN.{set, replicate}
 use Rattle.refusals.specs.Refusals.{numberOf, firstOf}
-use Rattle.table.specs.declared.mode.Mode.the-variants.{Manual}
+use Rattle.table.specs.declared.mode.Mode.{Mode}
+use Rattle.table.specs.declared.mode.Mode.the-variants.{Manual, Automatic, Cascade}
 use Rattle.table.specs.Words.{bcd, badDigit}
 use Rattle.table.specs.Settings.{mode2Of, badDigits, tuningOf, settingsOf}
 use Rattle.table.specs.Programs.{faultOf, pairAt, anyBelow, badDigitIn, highEndIn, noProgram, programOf}
-use Rattle.table.specs.Transfers.{transfers}
+use Rattle.table.specs.Transfers.{transfers, majorOf, limitsAt, majorIn}
 use Rattle.table.specs.Reading.{modeAfter, remoteOf, readingOf}
-use Rattle.judging.specs.Judging.{readingCases}
+use Rattle.judging.specs.Judging.{readingCases, transferCases}
 
 -- words of loop 1 changed, a raw PV, and the number expected
 pub record Case : Type 0 where
@@ -99,3 +100,46 @@ answer c = numberOf (firstOf (readingCases (readingOf (c .write worked) 1 Manual
 pub computed : map answer (cases ++ tables) ≡ map (λ (c : Case). c .number) (cases ++ tables)
 unfolding faultOf pairAt anyBelow badDigitIn highEndIn noProgram programOf table tables bcd badDigit mode2Of badDigits tuningOf settingsOf modeAfter remoteOf transfers readingOf worked case word cases answer
 computed = refl
+
+-- a transfer of loop 1 to loop 2, whose output limits are 1,000 and 2,000
+handed : List ℕ → List ℕ
+handed ws = word 0 4 (word 26 37 (word 56 1000 (word 57 2000 ws)))
+
+-- p one below the low limit
+pub low-pv : Case
+low-pv = case handed 999 11
+
+-- N11: p on both sides of each limit; pointers that are no other loop's output, and one that is loop 16's; N7, N8 and N9 before it; no transfer
+pub handing : List Case
+handing =
+    case handed 1000 0
+    ∷ low-pv
+    ∷ case handed 2000 0
+    ∷ case handed 2001 11
+    ∷ case (λ ws. word 57 1000 (handed ws)) 1000 0
+    ∷ case (λ ws. word 57 999 (handed ws)) 1000 11
+    ∷ case (λ ws. word 26 5 (handed ws)) 1000 11
+    ∷ case (λ ws. word 26 36 (handed ws)) 1000 11
+    ∷ case (λ ws. word 26 38 (handed ws)) 1000 11
+    ∷ case (λ ws. word 26 485 (word 505 4095 (handed ws))) 999 0
+    ∷ case (λ ws. word 26 517 (handed ws)) 1000 11
+    ∷ case (λ ws. word 8 0x000A (handed ws)) 999 7
+    ∷ case (λ ws. word 37 4096 (handed ws)) 999 8
+    ∷ case handed 4096 9
+    ∷ case (λ ws. word 0 12 (handed ws)) 999 0
+    ∷ case (λ ws. word 0 6 (handed ws)) 999 0
+    ∷ case (λ ws. word 0 0 (handed ws)) 999 0
+    ∷ []
+
+-- the answer to a sample of loop 1, without the root, from a carried mode
+pub answer-from : Mode → Case → ℕ
+answer-from former c =
+    let ws = c .write worked in
+    let r = readingOf ws 1 former 0 in
+    numberOf (firstOf (readingCases r (c .raw) ++ transferCases (r .transfer) (majorIn ws 1 (r .settings .pointer)) (c .raw)))
+
+-- from Automatic; from Manual, and in Cascade, it is no transfer
+pub computed-handing : (map (answer-from Automatic) handing ≡ map (λ (c : Case). c .number) handing)
+    × (answer-from Manual low-pv ≡ 0) × (answer-from Cascade low-pv ≡ 0)
+unfolding faultOf pairAt anyBelow badDigitIn highEndIn noProgram programOf bcd badDigit mode2Of badDigits tuningOf settingsOf modeAfter remoteOf transfers majorOf limitsAt majorIn readingOf worked case word handed low-pv handing answer-from
+computed-handing = (refl, refl, refl)

@@ -1,4 +1,6 @@
 -- `desk::write_back` meets its contract.
+use Prim.Native.Nat.{_≤_}
+use native.Mathlib.Omega.{arith}
 use borrow.Author.Needs.{needs}
 use Rattle.table.specs.Transfers.Laws.{major-low}
 use Rattle.desk.specs.Desk.{doneBy}
@@ -23,7 +25,8 @@ put-numbers-requires c κs = search needs
 hand-over-requires : tie.Need-hand-over-requires
 hand-over-requires c κs =
     let m = c .before .before .before .before .before .before .before .before .before .before .before in
-    (search needs, search needs, rw (m .major-of .ensures) (major-low _ _))
+    let low : m .major-of .result ≤ 16 = rw (m .major-of .ensures) (major-low _ _) in
+    (search needs, search needs, omega (arith, low, m .before .before .before .before .pre .2))
 
 same-length : tie.Need-same-length
 same-length c = search needs

@@ -1,8 +1,8 @@
 -- `table::major_of` meets its contract: its test is the definition's.
-use Prim.Native.Nat.{_+_, _/_, _%_}
+use Prim.Native.Nat.{_%_}
 use native.Mathlib.Omega.{arith}
 use lib.Dec.{ltb, eqb}
-use mathlib.Core.Bool.{not, _&&_}
+use mathlib.Core.Bool.{_&&_}
 use borrow.Author.Needs.{needs}
 use borrow.Author.Tests.{ltb-true}
 use Rattle.table.specs.Words.Laws.{and-true}
