@@ -235,7 +235,8 @@ enum kexbardi_fault {
  *   complete      0                         1                       1 once the profile came to its end
  *   fraction      0                         9,999                   of the setpoint, ten-thousandths of a count
  *   time          0                         6,000,000               of the soak so far, hundredths of a second
- *   mark          0                         1                       1 once another loop's transfer wrote the output (A13)
+ *   mark          0                         1                       1 from another loop's transfer to this one to the
+ *                                                                   next accepted sample outside Manual (A13)
  *
  * A record with a number outside these is refused with 5, and all fourteen numbers stay as they are. */
 enum kexbardi_field {
@@ -257,7 +258,7 @@ enum kexbardi_field {
 
 enum kexbardi_mode { KEXBARDI_MANUAL = 0, KEXBARDI_AUTOMATIC = 1, KEXBARDI_CASCADE = 2 };
 
-/* ---- the refusals (N1 to N11), up to 9 by the numbers that instructors know from drill files */
+/* ---- the refusals (N1 to N11), but for 10 by the numbers that instructors know from drill files */
 
 enum kexbardi_refusal {
     KEXBARDI_ACCEPTED = 0,

@@ -7,6 +7,8 @@ use Rattle.numbers.proofs.Examples as numbers
 use Rattle.reader.specs.File.{recordsOf}
 use Rattle.reader.proofs.Examples as reader
 use Rattle.table.specs.declared.mode.Mode.the-variants.{Manual, Automatic, Cascade}
+use Rattle.table.specs.Transfers.{majorOf}
+use Rattle.table.proofs.Examples as table
 use Rattle.judging.proofs.Examples as judging
 use Rattle.profile.proofs.Examples as profile
 use Rattle.engine.proofs.Starred as starred
@@ -24,6 +26,10 @@ roots-computed = numbers.computed
 -- the examples of N1 to N3
 pub records-read : recordsOf reader.file ≡ map (λ (c : reader.Case). c .item) reader.cases
 records-read = reader.all-cases .0
+
+-- N11: which loop is the major one
+pub majors-found : map (majorOf 2) table.pointers ≡ 1 ∷ 3 ∷ 16 ∷ 0 ∷ 0 ∷ 0 ∷ 0 ∷ 0 ∷ 0 ∷ 0 ∷ 0 ∷ []
+majors-found = table.majors
 
 -- N7 to N9 at their edges
 pub settings-judged : let cases = judging.cases ++ judging.tables in map judging.answer cases ≡ map (λ (c : judging.Case). c .number) cases

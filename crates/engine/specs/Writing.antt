@@ -57,7 +57,7 @@ writtenTo ws base w =
     (at 27 (w .flags)
     (at 6 (w .status) (at 5 (w .output) (at 4 (w .bias) (at 3 (w .pv) (at 2 (w .setpoint) (set ws base (w .word))))))))
 
--- A11, in every mode: mode and form of this sample, the PV before (p at the first accepted sample), the last PV, the error, and that one was accepted
+-- A11, in every mode: mode, form, profile and mark as this sample leaves them, the PV before (p at the first accepted sample), the last PV, the error, and that one was accepted
 unfoldable pub nextOf : Carried → Sensed → Drive → Carried
 nextOf c x drive = record {
   state = x .state;

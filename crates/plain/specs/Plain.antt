@@ -40,7 +40,7 @@ abbrev pub inputsOf : ℕ → ℕ → ℤ → Inputs
 inputsOf last p e = record { p = e; i = e; d = pos p -ℤ pos last }
 
 -- E5: where n is now above 0, the exact terms, the exact output, and B after it; `start` and `last` are B and the last PV to start from. Where n is
--- 0, B stays: the next entry sets it before it counts. Mode, form and p are kept whatever n is
+-- 0, B stays: the next entry sets it before it counts. State and p are kept whatever n is
 unfoldable pub movedBy : ℕ → Plain → Reading → State → Fraction → ℕ → ℕ → ℤ → Plain
 movedBy zero q r state start last p e = record { state = state; last = p; B = q .B; n = 0; output = q .output }
 movedBy (suc n) q r state start last p e =
@@ -49,7 +49,7 @@ movedBy (suc n) q r state start last p e =
     let output = exactOutput (s .limits .low) (s .limits .high) start terms in
     record { state = state; last = p; B = exactBias output terms; n = suc n; output = output }
 
--- E3 to E5: an accepted sample of its loop. p, s and e are those of A1 to A5 from its own mode and form; an entry starts B at word 5 inside its
+-- E3 to E5: an accepted sample of its loop. p, s and e are those of A1 to A5 from its own state; an entry starts B at word 5 inside its
 -- limits, and the last PV at p
 unfoldable pub plainAfter : Plain → Reading → ℕ → Plain
 plainAfter q r raw =

@@ -41,7 +41,7 @@ returns c =
     let p = h .before .before .before .before in
     let n = p .before in
     let w = n .before .before .before .before .before in
-    rw (h .hand-over .ensures, w .before .before .major-of .ensures, p .put-numbers .ensures, n .numbers-of .ensures, n .before .slot-of .ensures, w .write-words .ensures)
+    simp (h .hand-over .ensures, w .before .before .major-of .ensures, p .put-numbers .ensures, n .numbers-of .ensures, n .before .slot-of .ensures, w .write-words .ensures)
 
 pub write-back-spec : {M : Type 1} → statement M
 write-back-spec =

@@ -1,0 +1,2 @@
+-- The major loop of an address, computed.
+pub mod Examples
