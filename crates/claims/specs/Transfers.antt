@@ -1,14 +1,16 @@
 -- What is promised of the transfer from Automatic to Cascade with Bumpless I (A13): when a sample is one, which loop is the major one, that its output
--- word is left inside its limits (E2), that no error is left in the minor loop, and what a mark does and does not do.
+-- word is left inside its limits (E2), that no error is left in the minor loop, what an entry and a mark do, and what they do not.
 use Prim.Native.Nat.{ℕ, _+_, _≤_}
 use mathlib.Core.Path.{_≡_}
-use mathlib.Core.Bool.{true, false}
+use mathlib.Core.Bool.{Bool, true, false, not, _||_, Bool·beq}
+use lib.IntN.{pos}
 use lib.ListN.{getD}
+use Rattle.numbers.specs.Limits.{clampℕ}
 use Rattle.refusals.specs.Refusals.{numberOf}
 use Rattle.table.specs.declared.mode.Mode.the-variants.{Automatic, Cascade}
 use Rattle.table.specs.declared.reading.Reading.{Reading}
 use Rattle.table.specs.Words.{baseOf}
-use Rattle.table.specs.Modes.{isManual}
+use Rattle.table.specs.Modes.{isManual, isCascade}
 use Rattle.table.specs.Transfers.{majorOf}
 use Rattle.carried.specs.declared.record.State.{State}
 use Rattle.carried.specs.Layout.{recordAt, marked}
@@ -33,14 +35,25 @@ pub record Transferred : Type 0 where
   pub inside : (d : Desk) (k raw : ℕ) → numberOf (sampleAnswer d k raw) ≡ 0 → transferAt d k ≡ true → let base = baseOf (majorAt d k) in
       (getD (d .words) (base + 24) 0 ≤ getD (sampleLeft d k raw .words) (base + 5) 0)
       × (getD (sampleLeft d k raw .words) (base + 5) 0 ≤ getD (d .words) (base + 25) 0)
-  -- A13: the minor loop's setpoint and PV are both p
+  -- A13: the minor loop's setpoint and PV are both p, and its error is 0. N8 tests the word pointed to as it stood
   pub settles : (d : Desk) (k raw : ℕ) → transferAt d k ≡ true
-      → (stepAt d k raw .written .setpoint ≡ pvAt d k raw) × (stepAt d k raw .written .pv ≡ pvAt d k raw)
-  -- A4: without a mark a sample is an entry only from Manual or by a change of form, a transfer too; with one it is, but in Manual
+      → (stepAt d k raw .written .setpoint ≡ pvAt d k raw) × (stepAt d k raw .written .pv ≡ pvAt d k raw) × (stepAt d k raw .carried .past .error ≡ pos 0)
+  pub remote : (d : Desk) (k : ℕ) → isCascade (readingAt d k .mode) ≡ true → readingAt d k .remote ≡ getD (d .words) (readingAt d k .settings .pointer) 0
+  -- A4: a sample outside Manual is an entry from Manual, by a change of form, and by the mark; without these it is none, a transfer neither
+  pub changes : (state : State) (velocity : Bool) → changed state velocity ≡ (isManual (state .mode) || not (Bool·beq (state .velocity) velocity))
+  pub change : (r : Reading) (state : State) (raw : ℕ) → changed state (r .settings .mode1 .velocity) ≡ true → isManual (r .mode) ≡ false
+      → sensedOf r state raw .entry ≡ true
   pub unmarked : (r : Reading) (state : State) (raw : ℕ) → changed state (r .settings .mode1 .velocity) ≡ false → state .mark ≡ false
       → sensedOf r state raw .entry ≡ false
   pub entry : (r : Reading) (state : State) (raw : ℕ) → state .mark ≡ true → isManual (r .mode) ≡ false → sensedOf r state raw .entry ≡ true
-  -- A11: no sample outside Manual leaves a mark of its own loop, a transfer neither; one in Manual is no entry, and keeps a mark
+  -- A4, A10: an entry without an error leaves word 5 as it was, inside the limits, in both forms: the loop goes on from there, whatever it carried
+  pub goes-on : (d : Desk) (k raw : ℕ) → numberOf (sampleAnswer d k raw) ≡ 0 → let x = sensedOf (readingAt d k) (recordAt (d .numbers) k .state) raw in
+      x .entry ≡ true → x .error ≡ pos 0 → let at : ℕ → ℕ = λ i. getD (d .words) (baseOf k + i) 0 in
+      getD (sampleLeft d k raw .words) (baseOf k + 5) 0 ≡ clampℕ (at 5) (at 24) (at 25)
+  -- A11: mode and form are this sample's, and what is carried on is what was sensed: no sample outside Manual leaves a mark of its own loop, a transfer neither; one in Manual is no entry, and keeps a mark
+  pub carries : (d : Desk) (k raw : ℕ) → let r = readingAt d k in
+      let x = sensedOf r (recordAt (d .numbers) k .state) raw in
+      (stepAt d k raw .carried .state ≡ x .state) × (x .state .mode ≡ r .mode) × (x .state .velocity ≡ r .settings .mode1 .velocity)
   pub cleared : (r : Reading) (state : State) (raw : ℕ) → isManual (r .mode) ≡ false → sensedOf r state raw .state .mark ≡ false
   pub manual : (r : Reading) (state : State) (raw : ℕ) → isManual (r .mode) ≡ true
       → (sensedOf r state raw .entry ≡ false) × (sensedOf r state raw .state .mark ≡ state .mark)

@@ -24,6 +24,12 @@ pub record Small (t : Terms) : Type 0 where
   pub i : natAbs (t .i) ≤ 2 ^ 54
   pub d : natAbs (t .d) ≤ 2 ^ 53
 
+-- terms that move nothing
+pub record Still (t : Terms) : Type 0 where
+  pub p : natAbs (t .p) ≤ 0
+  pub i : natAbs (t .i) ≤ 0
+  pub d : natAbs (t .d) ≤ 0
+
 -- numbers of which no sum leaves 64 bits
 pub record Ready (drive : Drive) (t : Terms) (lo hi : ℤ) : Type 0 where
   pub bias : natAbs (drive .bias) ≤ 2 ^ 52

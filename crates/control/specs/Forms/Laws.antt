@@ -1,16 +1,18 @@
 -- The laws of the two forms: the output is within its limits, and the bias within its range.
+use mathlib.Core.Path.{_≡_}
 use mathlib.Core.Bool.{Bool, true, false, not, _&&_}
 use Prim.Native.Nat.{_-_, _^_, _≤_}
 use native.Mathlib.Omega.{arith}
 use lib.Dec.{T}
 use lib.IntN.{ℤ, natAbs, _+ℤ_, _-ℤ_}
 use lib.Signed.{ltZ, _≤ℤ_, ltZ-no}
-use Rattle.numbers.specs.Whole.{linear, add, abs, abs-in, abs-sub}
+use Rattle.numbers.specs.Whole.{linear, add, sub, abs, abs-in, abs-sub}
 use Rattle.numbers.specs.Limits.{clampℤ}
-use Rattle.numbers.specs.Limits.Laws.{by-test, clamp-low, clamp-high, clamp-abs}
+use Rattle.numbers.specs.Limits.Laws.{by-test, clamp-kept, orderℤ, clamp-low, clamp-high, clamp-abs}
 use Rattle.control.specs.declared.terms.Terms.{Terms}
 use Rattle.control.specs.declared.forms.Drive.{Drive}
 use Rattle.control.specs.Forms.{outsideOf, positionOf, velocityOf}
+use Rattle.control.specs.Premises.{Still}
 
 -- within limits
 pub record Inside (lo hi x : ℤ) : Type 0 where
@@ -32,6 +34,29 @@ position-inside freeze drive t {low} {high} l =
 pub velocity-inside : (drive : Drive) (t : Terms) {low high : ℤ} → low ≤ℤ high → Inside low high (velocityOf drive t low high .output)
 unfolding velocityOf
 velocity-inside drive t l = clamp-inside l (((drive .output +ℤ t .p) +ℤ t .i) -ℤ t .d)
+
+-- and terms that move nothing leave it where it is, if that is inside them: in position form at the bias, in velocity form at the carried output
+pub position-still : (freeze : Bool) (drive : Drive) {t : Terms} {low high : ℤ} → Still t → Inside low high (drive .bias)
+    → positionOf freeze drive t low high .output ≡ drive .bias
+unfolding positionOf outsideOf
+position-still freeze drive {t} {low} {high} still inside =
+    let base = t .p -ℤ t .d in
+    let trial = drive .bias +ℤ t .i in
+    let m = base +ℤ trial in
+    let same : m ≡ drive .bias
+    = omega (arith, linear, sub (t .p) (t .d), add (drive .bias) (t .i), add base trial, abs (t .p), abs (t .i), abs (t .d), still .p, still .i, still .d) in
+    let kept : clampℤ m low high ≡ drive .bias = rw same (clamp-kept orderℤ (inside .low) (inside .high)) in
+    by-test (λ (r : Drive). r .output ≡ drive .bias) (not (ltZ m low) && not (ltZ high m)) (λ _. kept) (λ _. kept)
+
+pub velocity-still : (drive : Drive) {t : Terms} {low high : ℤ} → Still t → Inside low high (drive .output)
+    → velocityOf drive t low high .output ≡ drive .output
+unfolding velocityOf
+velocity-still drive {t} {low} {high} still inside =
+    let one = drive .output +ℤ t .p in
+    let two = one +ℤ t .i in
+    let same : two -ℤ t .d ≡ drive .output
+    = omega (arith, linear, add (drive .output) (t .p), add one (t .i), sub two (t .d), abs (t .p), abs (t .i), abs (t .d), still .p, still .i, still .d) in
+    rw same (clamp-kept orderℤ (inside .low) (inside .high))
 
 both : (a b : Bool) → T (not a && not b) → T (not a) × T (not b)
 both false false h = (tt, tt)

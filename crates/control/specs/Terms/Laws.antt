@@ -16,7 +16,7 @@ use Rattle.table.specs.declared.settings.Tuning.{Tuning}
 use Rattle.control.specs.declared.terms.Inputs.{Inputs}
 use Rattle.control.specs.declared.terms.Terms.{Terms}
 use Rattle.control.specs.Terms.{factorOf, exactP, exactI, exactD, directedᶠ, negated, exactTerms, termsOf}
-use Rattle.control.specs.Premises.{Tuned, Bounded, Small}
+use Rattle.control.specs.Premises.{Tuned, Bounded, Small, Still}
 
 -- a term k × e / d in units is one quotient
 pub term-is : (k : ℕ) (e : ℤ) {d : ℕ} → 0 < d → roundTo 262144 (over (pos k *ℤ e) d) ≡ halfAway (pos (k * 262144) *ℤ e) d
@@ -60,7 +60,7 @@ pub factor-high : {g : ℕ} → g ≤ 9999 → factorOf g ≤ 9999
 factor-high {g} h = by-test (λ (n : ℕ). n ≤ 9999) (eqb g 0) (λ _. omega arith) (λ _. h)
 
 module _ {t : Tuning} (tuned : Tuned t) (minutes reverse : Bool) (x : Inputs) where
-  -- P and D, by a bound b on what they act on; the period is 0.05 s at least
+  -- each, by a bound b on what it acts on; the period is 0.05 s at least
   p-high : (b m : ℕ) → natAbs (x .p) ≤ b → 9999 * 262144 * b ≤ m * 100 → natAbs (termsOf t minutes reverse x .p) ≤ m
   unfolding termsOf exactTerms exactP
   p-high b m h l =
@@ -77,25 +77,29 @@ module _ {t : Tuning} (tuned : Tuned t) (minutes reverse : Bool) (x : Inputs) wh
       let k = term-high (c * t .rate) (x .d) {d = 100 * t .period} (omega arith) m n in
       omega (arith, directed-abs reverse (exactD c (t .rate) (t .period) (x .d)))
 
-  i-high : natAbs (x .i) ≤ 65535 → natAbs (termsOf t minutes reverse x .i) ≤ 2 ^ 54
+  i-high : (b m : ℕ) → natAbs (x .i) ≤ b → 9999 * 9999 * 262144 * b ≤ m * 100 → natAbs (termsOf t minutes reverse x .i) ≤ m
   unfolding termsOf exactTerms exactI
-  i-high h =
+  i-high b m h bound =
       let c = factorOf (t .gain) in
       let d = 100 * cond minutes (60 * t .reset) (t .reset) in
       let s = settings-high (factor-high (tuned .gain)) (tuned .period) in
       let l : 100 ≤ d = by-test (λ (n : ℕ). 100 ≤ 100 * n) minutes (λ _. omega arith) (λ _. omega arith) in
-      let k = by-test (λ (f : Fraction). natAbs (roundTo 262144 f) ≤ 2 ^ 54) (eqb (t .reset) 9999)
-      (λ _. term-high 0 (pos 0) {d = 1} (lit< tt) (2 ^ 54) (omega arith))
-      (λ _. term-high (c * t .period) (x .i) {d = d} (omega arith) (2 ^ 54) (omega (arith, mul-le-mul s h))) in
+      let k = by-test (λ (f : Fraction). natAbs (roundTo 262144 f) ≤ m) (eqb (t .reset) 9999)
+      (λ _. term-high 0 (pos 0) {d = 1} (lit< tt) m (omega arith))
+      (λ _. term-high (c * t .period) (x .i) {d = d} (omega arith) m (omega (arith, mul-le-mul s h, mul-le-mul-left m l))) in
       omega (arith, directed-abs reverse (exactI c (t .period) (t .reset) minutes (x .i)))
 
   -- each of the three
   pub terms-high : Bounded x → Small (termsOf t minutes reverse x)
   terms-high h = record {
     p = p-high 131070 (2 ^ 42) (h .p) (omega arith);
-    i = i-high (h .i);
+    i = i-high 65535 (2 ^ 54) (h .i) (omega arith);
     d = d-high 131070 (2 ^ 53) (h .d) (omega arith);
   }
+
+  -- none where it acts on nothing
+  pub terms-still : natAbs (x .p) ≤ 0 → natAbs (x .i) ≤ 0 → natAbs (x .d) ≤ 0 → Still (termsOf t minutes reverse x)
+  terms-still p i d = record { p = p-high 0 0 p (omega arith); i = i-high 0 0 i (omega arith); d = d-high 0 0 d (omega arith) }
 
   -- P − D in position form, with room for a limit beside it
   pub terms-close : natAbs (x .p) ≤ 65535 → natAbs (x .d) ≤ 65535

@@ -1,6 +1,7 @@
 -- The laws of what moves the output: the terms of an accepted sample fit, the output is within its limits, and bias and output within their ranges.
 use Prim.Native.Nat.{ℕ, _*_, _^_, _≤_}
 use native.Mathlib.Omega.{arith}
+use mathlib.Core.Path.{_≡_}
 use mathlib.Core.Bool.{Bool, true, false}
 use lib.IntN.{ℤ, pos, natAbs, _+ℤ_, _-ℤ_}
 use lib.Signed.{_≤ℤ_}
@@ -10,10 +11,10 @@ use Rattle.numbers.specs.Rounding.{unitsOf}
 use Rattle.table.specs.declared.settings.Settings.{Settings}
 use Rattle.control.specs.declared.forms.Drive.{Drive}
 use Rattle.control.specs.declared.terms.Inputs.{Inputs}
-use Rattle.control.specs.Premises.{Bounded, Ready}
-use Rattle.control.specs.Terms.Laws.{terms-high, terms-close}
+use Rattle.control.specs.Premises.{Tuned, Bounded, Ready}
+use Rattle.control.specs.Terms.Laws.{terms-high, terms-still, terms-close}
 use Rattle.control.specs.Forms.{velocityOf}
-use Rattle.control.specs.Forms.Laws.{Inside, position-inside, velocity-inside, position-bias}
+use Rattle.control.specs.Forms.Laws.{Inside, position-inside, velocity-inside, position-still, velocity-still, position-bias}
 use Rattle.carried.specs.declared.record.Past.{Past}
 use Rattle.engine.specs.Driving.{heldOf, startOf, pastOf, positionInputs, velocityInputs, inputsOf, termsIn, lowUnits, highUnits, movedPosition, movedVelocity, movedOf}
 use Rattle.engine.specs.Premises.{Counted, Movable}
@@ -117,3 +118,20 @@ module _ {s : Settings} {drive : Drive} {past : Past} {p : ℕ} {e : ℤ} (m : M
       let close = terms-close (m .tuned) (s .mode2 .minutes) (s .mode1 .reverse) x (m .error) (abs-in (pos p -ℤ pos (past .last)) (omega (arith, sub (pos p) (pos (past .last))))) in
       by-test (λ (d : Drive). natAbs (d .bias) ≤ 2 ^ 52) (s .mode1 .velocity) (λ _. m .bias)
       (λ _. position-bias (s .mode1 .freeze) drive (termsIn s x) (m .bias) close (omega arith) (omega arith) (limits-units s (m .limits)))
+
+-- ---- an entry without an error
+
+-- it goes on from word 5 inside the limits, in either form, whatever was carried
+pub entry-still : (s : Settings) → Tuned (s .tuning) → s .limits .low ≤ s .limits .high → (drive : Drive) (kept : Past) (p : ℕ)
+    → movedOf s false (startOf true (heldOf s) drive) (pastOf true kept p (pos 0)) p (pos 0) .output ≡ pos (unitsOf (heldOf s))
+unfolding movedOf movedPosition movedVelocity termsIn startOf pastOf positionInputs velocityInputs
+entry-still s tuned l drive kept p =
+    let held : Drive = record { bias = pos (unitsOf (heldOf s)); output = pos (unitsOf (heldOf s)) } in
+    let inside : Inside (lowUnits s) (highUnits s) (pos (unitsOf (heldOf s)))
+    = record { low = omega (arith, linear, held-low s l); high = omega (arith, linear, held-high s l) } in
+    let twice = pos p -ℤ pos (2 * p) in
+    by-test (λ (d : Drive). d .output ≡ pos (unitsOf (heldOf s))) (s .mode1 .velocity)
+    (λ _. velocity-still held (terms-still tuned (s .mode2 .minutes) (s .mode1 .reverse) _ (omega arith) (omega arith)
+    (abs-in (twice +ℤ pos p) (omega (arith, sub (pos p) (pos (2 * p)), add twice (pos p))))) inside)
+    (λ _. position-still (s .mode1 .freeze) held (terms-still tuned (s .mode2 .minutes) (s .mode1 .reverse) _ (omega arith) (omega arith)
+    (abs-in (pos p -ℤ pos p) (omega (arith, sub (pos p) (pos p))))) inside)

@@ -1,17 +1,21 @@
 -- The laws of what is sensed: PV and setpoint are within the full scale, the profile is in its ranges.
-use Prim.Native.Nat.{ℕ, _*_, _≤_}
+use Prim.Native.Nat.{ℕ, _*_, _≤_, _<_}
 use native.Mathlib.Omega.{arith}
 use native.Mathlib.Nat.{mul-le-mul, mul-le-mul-right}
+use mathlib.Core.Path.{_≡_}
 use mathlib.Core.Bool.{Bool, not, _&&_, _||_}
+use lib.IntN.{pos}
 use Rattle.numbers.specs.Limits.Laws.{by-test}
 use Rattle.numbers.specs.Roots.Laws.{root-exact, root-high}
+use Rattle.table.specs.declared.settings.Settings.{Settings}
 use Rattle.table.specs.declared.reading.Reading.{Reading}
 use Rattle.table.specs.Modes.{isAutomatic, isCascade}
+use Rattle.control.specs.Errors.Laws.{error-none}
 use Rattle.profile.specs.declared.state.Profile.{Profile}
 use Rattle.profile.specs.declared.sampling.Profiled.{Profiled}
 use Rattle.profile.specs.Moves.Laws.{Within, advanced-within, advanced-scale}
 use Rattle.profile.specs.Samples.{sampledBy}
-use Rattle.engine.specs.Sensing.{pvOf, setpointOf, targetOf, profiledOf}
+use Rattle.engine.specs.Sensing.{pvOf, setpointOf, targetOf, profiledOf, errorIn}
 
 pub pv-high : (root : Bool) {scale raw : ℕ} → scale ≤ 65535 → raw ≤ scale → pvOf root scale raw ≤ scale
 unfolding pvOf
@@ -39,3 +43,8 @@ module _ (r : Reading) {q : Profile} (w : Within q) (target p : ℕ) where
   profiled-scale {scale} h e =
       by-test (λ (m : Profiled). m .setpoint ≤ scale) (isCascade (r .mode)) (λ _. h)
       (λ _. advanced-scale (r .program) q target scale (w .fraction) h e (r .settings .stored .flags) (r .settings .tuning .period))
+
+-- with the setpoint at the PV there is no error
+pub settled-error : (s : Settings) (p : ℕ) → 0 < s .mode2 .output .scale → errorIn s p p ≡ pos 0
+unfolding errorIn
+settled-error s p some = error-none (s .mode1 .squared) (s .mode1 .deadband) (s .deadband) p some

@@ -1,11 +1,16 @@
 -- The laws of a sample whole: an accepted one can be stepped, and leaves a record in range.
 use Prim.Native.Nat.{ℕ, _≤_}
 use native.Mathlib.Omega.{arith}
-use mathlib.Core.Path.{_≡_, ap}
-use mathlib.Core.Bool.{not, _||_}
+use native.Mathlib.Nat.{mul-comm}
+use mathlib.Core.Path.{_≡_, refl, ap, _∙_}
+use mathlib.Core.Bool.{Bool, true, false, cond, not, _||_, or-true}
 use mathlib.Core.List.{List}
+use lib.Dec.{lit<}
+use lib.IntN.{pos, natAbs}
 use borrow.Author.Tests.{ltb-false}
 use Rattle.numbers.specs.Limits.Laws.{by-test}
+use Rattle.numbers.specs.Rounding.{nearestCount}
+use Rattle.numbers.specs.Rounding.Laws.{half-up-whole}
 use Rattle.refusals.specs.declared.Answer.the-variants.{Accepted}
 use Rattle.refusals.specs.Refusals.{firstOf}
 use Rattle.table.specs.declared.format.Format.{Format}
@@ -22,9 +27,9 @@ use Rattle.judging.specs.Judging.{readingCases}
 use Rattle.judging.specs.Judging.Laws.{passed, times-good, limits-good, setpoint-good}
 use Rattle.engine.specs.Sensing.{setpointOf, changed, runsOn, targetOf, errorIn, sensedOf}
 use Rattle.engine.specs.Sensing.Laws.{pv-high, target-high, profiled-within, profiled-scale}
-use Rattle.engine.specs.Driving.{heldOf, drivenOf}
-use Rattle.engine.specs.Driving.Laws.{held-high, start-bias, start-output, Remembered, past-high, moved-output, moved-bias}
-use Rattle.engine.specs.Writing.{nextOf}
+use Rattle.engine.specs.Driving.{heldOf, startOf, pastOf, movedOf, drivenOf}
+use Rattle.engine.specs.Driving.Laws.{held-high, start-bias, start-output, Remembered, past-high, moved-output, moved-bias, entry-still}
+use Rattle.engine.specs.Writing.{outputWord, writtenOf, nextOf}
 use Rattle.engine.specs.Steps.{stepOf}
 use Rattle.engine.specs.Premises.{Usable, Drivable}
 
@@ -106,3 +111,14 @@ stepped-ranged {r} {c} {raw} u g =
       prior = by-test (λ n. n ≤ 65535) (c .sampled) (λ _. g .last) (λ _. m .pv);
       profile = profiled-within r (g .profile) _ _ (u .program .duration);
     }
+
+-- A4: an entry without an error leaves word 5 as it is, inside the limits
+pub entry-output : {r : Reading} {raw : ℕ} (c : Carried) → Usable r raw → sensedOf r (c .state) raw .entry ≡ true → sensedOf r (c .state) raw .error ≡ pos 0
+    → stepOf r c raw .written .output ≡ heldOf (r .settings)
+unfolding stepOf writtenOf drivenOf outputWord
+entry-output {r} {raw} c u entry none = rw (entry, none, or-true (not (c .sampled))) (go (isManual (r .mode)))
+  where
+    go : (manual : Bool)
+        → cond manual (heldOf (r .settings)) (nearestCount (natAbs (movedOf (r .settings) manual (startOf true (heldOf (r .settings)) (c .drive)) (pastOf true (c .past) (sensedOf r (c .state) raw .pv) (pos 0)) (sensedOf r (c .state) raw .pv) (pos 0) .output))) ≡ heldOf (r .settings)
+    go true = refl
+    go false = rw (entry-still (r .settings) (u .tuned) (u .limits) (c .drive) (c .past) (sensedOf r (c .state) raw .pv)) (ap nearestCount (mul-comm (heldOf (r .settings)) 262144) ∙ half-up-whole (heldOf (r .settings)) {d = 262144} (lit< tt))

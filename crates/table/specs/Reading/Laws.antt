@@ -76,7 +76,11 @@ no-request bits former e = rw e (go former (bits .manual) (bits .automatic))
 -- ---- what is known of every reading
 
 module _ (ws : List ℕ) (k : ℕ) (former : Mode) (segment : ℕ) where
-  -- words 24 and 25
+  -- words 5, 24 and 25
+  pub output-word : readingOf ws k former segment .settings .stored .output ≡ getD ws (baseOf k + 5) 0
+  unfolding readingOf settingsOf
+  output-word = block-at ws (baseOf k) 5 (lit< tt)
+
   pub limit-low : readingOf ws k former segment .settings .limits .low ≡ getD ws (baseOf k + 24) 0
   unfolding readingOf settingsOf
   limit-low = block-at ws (baseOf k) 24 (lit< tt)
