@@ -21,7 +21,7 @@ use Rattle.table.specs.Reading.{remoteOf, readingOf}
 use Rattle.table.specs.Reading.Laws.{output-word, limit-low, limit-high, input-low, one-format}
 use Rattle.carried.specs.declared.record.State.{State}
 use Rattle.carried.specs.Layout.{recordAt}
-use Rattle.engine.specs.Sensing.{changed, entering, targetOf, profiledOf, sensedOf}
+use Rattle.engine.specs.Sensing.{setpointOf, changed, entering, targetOf, profiledOf, sensedOf}
 use Rattle.engine.specs.Sensing.Laws.{settled-error}
 use Rattle.engine.specs.Driving.{heldOf}
 use Rattle.engine.specs.Writing.{writtenOf, nextOf}
@@ -87,6 +87,13 @@ settled d k raw on =
     let some = input-low (d .words) k (c .mode) (c .profile .segment) in
     (rw (cascade, on), refl, rw (cascade, on) (settled-error (readingAt d k .settings) (pvAt d k raw) (rw (one-format (d .words) k (c .mode) (c .profile .segment)) (omega arith))))
 
+follow : (d : Desk) (k raw : ℕ) → isCascade (readingAt d k .mode) ≡ true → transferAt d k ≡ false
+    → stepAt d k raw .written .setpoint ≡ readingAt d k .remote
+unfolding stepOf writtenOf sensedOf profiledOf targetOf setpointOf
+follow d k raw cascade off =
+    let c = recordAt (d .numbers) k .state in
+    rw (to-cascade (readingAt d k .mode) cascade, off, and-false (changed c (readingAt d k .settings .mode1 .velocity)))
+
 followed : (d : Desk) (k : ℕ) → isCascade (readingAt d k .mode) ≡ true → readingAt d k .remote ≡ getD (d .words) (readingAt d k .settings .pointer) 0
 unfolding readingOf remoteOf
 followed d k e = rw e
@@ -146,6 +153,7 @@ transferred = record {
   none = major-none;
   inside = kept-inside;
   settles = settled;
+  follows = follow;
   remote = followed;
   changes = λ state velocity. refl;
   change = changed-entry;

@@ -44,7 +44,7 @@ pub record Settled (r : Reading) : Type 0 where
   pub limits : badLimits (r .settings .limits) (r .settings .mode2 .output .scale) ≡ false
   pub setpoint : badSetpoint (isCascade (r .mode)) (r .settings .mode2 .input .scale) (r .settings .stored .setpoint) (r .settings .pointer) (r .remote) ≡ false
 
--- A13: whether a sample of loop k is a transfer; the major loop, 0 where there is none; and p
+-- A13: whether a sample of loop k is a transfer; which loop is the major one if it is, 0 where there is none; and p
 abbrev pub transferAt : Desk → ℕ → Bool
 transferAt d k = readingAt d k .transfer
 

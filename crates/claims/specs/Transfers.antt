@@ -35,9 +35,12 @@ pub record Transferred : Type 0 where
   pub inside : (d : Desk) (k raw : ℕ) → numberOf (sampleAnswer d k raw) ≡ 0 → transferAt d k ≡ true → let base = baseOf (majorAt d k) in
       (getD (d .words) (base + 24) 0 ≤ getD (sampleLeft d k raw .words) (base + 5) 0)
       × (getD (sampleLeft d k raw .words) (base + 5) 0 ≤ getD (d .words) (base + 25) 0)
-  -- A13: the minor loop's setpoint and PV are both p, and its error is 0. N8 tests the word pointed to as it stood
+  -- A13: the minor loop's setpoint and PV are both p, and its error is 0. A3: in Cascade without a transfer the setpoint is the word pointed to, and N8
+  -- tests that word as it stood, at a transfer too
   pub settles : (d : Desk) (k raw : ℕ) → transferAt d k ≡ true
       → (stepAt d k raw .written .setpoint ≡ pvAt d k raw) × (stepAt d k raw .written .pv ≡ pvAt d k raw) × (stepAt d k raw .carried .past .error ≡ pos 0)
+  pub follows : (d : Desk) (k raw : ℕ) → isCascade (readingAt d k .mode) ≡ true → transferAt d k ≡ false
+      → stepAt d k raw .written .setpoint ≡ readingAt d k .remote
   pub remote : (d : Desk) (k : ℕ) → isCascade (readingAt d k .mode) ≡ true → readingAt d k .remote ≡ getD (d .words) (readingAt d k .settings .pointer) 0
   -- A4: a sample outside Manual is an entry from Manual, by a change of form, and by the mark; without these it is none, a transfer neither
   pub changes : (state : State) (velocity : Bool) → changed state velocity ≡ (isManual (state .mode) || not (Bool·beq (state .velocity) velocity))
@@ -46,7 +49,7 @@ pub record Transferred : Type 0 where
   pub unmarked : (r : Reading) (state : State) (raw : ℕ) → changed state (r .settings .mode1 .velocity) ≡ false → state .mark ≡ false
       → sensedOf r state raw .entry ≡ false
   pub entry : (r : Reading) (state : State) (raw : ℕ) → state .mark ≡ true → isManual (r .mode) ≡ false → sensedOf r state raw .entry ≡ true
-  -- A4, A10: an entry without an error leaves word 5 as it was, inside the limits, in both forms: the loop goes on from there, whatever it carried
+  -- A4, A10: an entry without an error leaves word 5 as it was, brought inside the limits, in both forms: the loop goes on from there, whatever it carried
   pub goes-on : (d : Desk) (k raw : ℕ) → numberOf (sampleAnswer d k raw) ≡ 0 → let x = sensedOf (readingAt d k) (recordAt (d .numbers) k .state) raw in
       x .entry ≡ true → x .error ≡ pos 0 → let at : ℕ → ℕ = λ i. getD (d .words) (baseOf k + i) 0 in
       getD (sampleLeft d k raw .words) (baseOf k + 5) 0 ≡ clampℕ (at 5) (at 24) (at 25)
@@ -57,7 +60,7 @@ pub record Transferred : Type 0 where
   pub cleared : (r : Reading) (state : State) (raw : ℕ) → isManual (r .mode) ≡ false → sensedOf r state raw .state .mark ≡ false
   pub manual : (r : Reading) (state : State) (raw : ℕ) → isManual (r .mode) ≡ true
       → (sensedOf r state raw .entry ≡ false) × (sensedOf r state raw .state .mark ≡ state .mark)
-  -- A4: a mark forces no setpoint, and moves nothing else but the entry: PV, setpoint, error, words 27 and 29, mode, form and profile are those that
+  -- A4: a mark forces no setpoint, and moves nothing but the entry and, in Manual, the mark that stays: PV, setpoint, error, words 27 and 29, mode, form and profile are those that
   -- they would be without it
   pub unforced : (r : Reading) (state : State) (raw : ℕ) → let x = sensedOf r (marked state) raw in
       let y = sensedOf r state raw in
