@@ -4,7 +4,6 @@ use native.Mathlib.Omega.{arith}
 use mathlib.Core.Path.{_≡_, refl, ap, _∙_}
 use mathlib.Core.Bool.{Bool, true, false, _||_}
 use mathlib.Core.List.{List, [], _∷_, _++_}
-use lib.IntN.{ℤ}
 use Rattle.numbers.specs.Fractions.{Fraction}
 use Rattle.refusals.specs.declared.Refusal.the-variants.{Memory}
 use Rattle.refusals.specs.declared.Answer.the-variants.{Refused}
@@ -12,7 +11,7 @@ use Rattle.refusals.specs.Refusals.Laws.{accepted-only}
 use Rattle.reader.specs.File.{recordsOf}
 use Rattle.table.specs.declared.reading.Reading.{Reading}
 use Rattle.table.specs.Modes.{isManual}
-use Rattle.carried.specs.declared.record.State.{State}
+use Rattle.engine.specs.declared.sensing.Sensed.{Sensed}
 use Rattle.engine.specs.Sensing.{sensedOf}
 use Rattle.plain.specs.Plain.{Plain, countAfter, movedBy, plainAfter, tolerance}
 use Rattle.plain.specs.Plain.Laws.{within-one}
@@ -91,15 +90,15 @@ next (s ∷ before) d qs tied t = next before (behind d s) (fedMade qs (found d 
 
 -- ---- n
 
-moved-count : (n : ℕ) (q : Plain) (r : Reading) (state : State) (start : Fraction) (last p : ℕ) (e : ℤ) → movedBy n q r state start last p e .n ≡ n
+moved-count : (n : ℕ) (q : Plain) (r : Reading) (x : Sensed) (start : Fraction) (last : ℕ) → movedBy n q r x start last .n ≡ n
 unfolding movedBy
-moved-count zero q r state start last p e = refl
-moved-count (suc n) q r state start last p e = refl
+moved-count zero q r x start last = refl
+moved-count (suc n) q r x start last = refl
 
 module _ (q : Plain) (r : Reading) (raw : ℕ) where
   count : plainAfter q r raw .n ≡ countAfter (isManual (r .mode) || r .settings .mode1 .freeze || r .settings .mode1 .velocity) (sensedOf r (q .state) raw .entry) (q .n)
   unfolding plainAfter
-  count = moved-count _ _ _ _ _ _ _ _
+  count = moved-count _ _ _ _ _ _
 
   going : (n : ℕ) → (n ≡ 0 → countAfter false false n ≡ 0) × (0 < n → countAfter false false n ≡ n + 1)
   unfolding countAfter

@@ -7,7 +7,7 @@ use mathlib.Core.Bool.{true, false}
 use Rattle.numbers.specs.Roots.{rootOf, Nearest}
 use Rattle.numbers.specs.Roots.Laws.{root-exact, root-no-tie, root-only, root-order, root-high, square-root}
 use Rattle.refusals.specs.Refusals.Laws.{accepted-only}
-use Rattle.table.specs.Reading.Laws.{input-high}
+use Rattle.table.specs.Reading.Laws.{input-scale}
 use Rattle.carried.specs.Layout.{recordAt}
 use Rattle.engine.specs.Sensing.{pvOf, sensedOf}
 use Rattle.engine.specs.Writing.{writtenOf}
@@ -31,7 +31,7 @@ module _ (d : Desk) (k : ℕ) where
   nearest : (raw : ℕ) → Taken d k raw → Nearest (raw * fullAt d k) (pvAt d k raw)
   nearest raw t =
       let c = recordAt (d .numbers) k in
-      let h = input-high (d .words) k (c .state .mode) (c .state .profile .segment) in
+      let h = input-scale (d .words) k (c .state .mode) (c .state .profile .segment) .high in
       let l : raw ≤ 65535 = omega (arith, below raw t, h) in
       rw (pv-root raw (t .root)) (root-exact (raw * fullAt d k) (omega (arith, mul-le-mul l h)))
 

@@ -18,7 +18,7 @@ use Rattle.table.specs.Modes.{isManual, isAutomatic, isCascade}
 use Rattle.table.specs.Transfers.{transfers}
 use Rattle.table.specs.Transfers.Laws.{major-found, major-none}
 use Rattle.table.specs.Reading.{remoteOf, readingOf}
-use Rattle.table.specs.Reading.Laws.{output-word, limit-low, limit-high, input-low, one-format}
+use Rattle.table.specs.Reading.Laws.{output-word, limit-low, limit-high, output-scale}
 use Rattle.carried.specs.declared.record.State.{State}
 use Rattle.carried.specs.Layout.{recordAt}
 use Rattle.engine.specs.Sensing.{setpointOf, changed, entering, targetOf, profiledOf, sensedOf}
@@ -84,8 +84,8 @@ unfolding stepOf writtenOf nextOf sensedOf profiledOf targetOf
 settled d k raw on =
     let cascade : isCascade (readingAt d k .mode) ≡ true = rw (only-one d k on .after) in
     let c = recordAt (d .numbers) k .state in
-    let some = input-low (d .words) k (c .mode) (c .profile .segment) in
-    (rw (cascade, on), refl, rw (cascade, on) (settled-error (readingAt d k .settings) (pvAt d k raw) (rw (one-format (d .words) k (c .mode) (c .profile .segment)) (omega arith))))
+    let scale = output-scale (d .words) k (c .mode) (c .profile .segment) in
+    (rw (cascade, on), refl, rw (cascade, on) (settled-error (readingAt d k .settings) (pvAt d k raw) (omega (arith, scale .low))))
 
 follow : (d : Desk) (k raw : ℕ) → isCascade (readingAt d k .mode) ≡ true → transferAt d k ≡ false
     → stepAt d k raw .written .setpoint ≡ readingAt d k .remote

@@ -1,15 +1,17 @@
--- What moves the output: A6 to A9, from where A4 starts bias and output.
+-- What moves the output: A6 to A9, from where A4 starts bias and output. p and the last PVs that the terms compare are in counts of the output (M7).
 use Prim.Native.Nat.{ℕ, _*_}
 use mathlib.Core.Bool.{Bool, cond, not, _||_}
 use lib.IntN.{ℤ, pos, _+ℤ_, _-ℤ_}
 use Rattle.numbers.specs.Limits.{clampℕ}
 use Rattle.numbers.specs.Rounding.{unitsOf}
+use Rattle.table.specs.declared.settings.Mode2.{Mode2}
 use Rattle.table.specs.declared.settings.Settings.{Settings}
 use Rattle.table.specs.declared.reading.Reading.{Reading}
 use Rattle.table.specs.Modes.{isManual}
 use Rattle.control.specs.declared.terms.Inputs.{Inputs}
 use Rattle.control.specs.declared.terms.Terms.{Terms}
 use Rattle.control.specs.declared.forms.Drive.{Drive}
+use Rattle.control.specs.Counts.{outputCounts}
 use Rattle.control.specs.Terms.{termsOf}
 use Rattle.control.specs.Forms.{positionOf, velocityOf}
 use Rattle.carried.specs.declared.record.Past.{Past}
@@ -25,9 +27,13 @@ heldOf s = clampℕ (s .stored .output) (s .limits .low) (s .limits .high)
 unfoldable pub startOf : Bool → ℕ → Drive → Drive
 startOf entry held drive = cond entry (record { bias = pos (unitsOf held); output = pos (unitsOf held) }) drive
 
+-- A6: both carried PVs in counts of the output, by the formats that this sample reads; the carried error is in these already
+unfoldable pub keptIn : Mode2 → Past → Past
+keptIn m kept = record { last = outputCounts m (kept .last); prior = outputCounts m (kept .prior); error = kept .error }
+
 -- A6: at an entry and at the first accepted sample the past is the present, so the terms see no change
-unfoldable pub pastOf : Bool → Past → ℕ → ℤ → Past
-pastOf fresh kept p e = cond fresh (record { last = p; prior = p; error = e }) kept
+unfoldable pub pastOf : Mode2 → Bool → Past → ℕ → ℤ → Past
+pastOf m fresh kept p e = cond fresh (record { last = p; prior = p; error = e }) (keptIn m kept)
 
 -- A7: what the terms act on in position form
 unfoldable pub positionInputs : Past → ℕ → ℤ → Inputs
@@ -68,4 +74,4 @@ movedOf s manual drive past p e =
 unfoldable pub drivenOf : Reading → Carried → Sensed → ℕ → Drive
 drivenOf r c x held =
     movedOf (r .settings) (isManual (r .mode)) (startOf (x .entry) held (c .drive))
-    (pastOf (not (c .sampled) || x .entry) (c .past) (x .pv) (x .error)) (x .pv) (x .error)
+    (pastOf (r .settings .mode2) (not (c .sampled) || x .entry) (c .past) (x .converted) (x .error)) (x .converted) (x .error)

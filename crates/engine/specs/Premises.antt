@@ -1,7 +1,6 @@
 -- What is known of an accepted sample: premises of the engine's functions. `Usable` follows from acceptance (`Steps/Laws.usable`), and the
 -- others from it and from a record in range.
 use Prim.Native.Nat.{ℕ, _^_, _≤_, _<_}
-use mathlib.Core.Path.{_≡_}
 use mathlib.Core.Bool.{not, _||_}
 use lib.IntN.{ℤ, pos, natAbs}
 use lib.Signed.{_≤ℤ_}
@@ -10,6 +9,7 @@ use Rattle.table.specs.declared.settings.Settings.{Settings}
 use Rattle.table.specs.declared.reading.Reading.{Reading}
 use Rattle.table.specs.Programs.Laws.{Fair}
 use Rattle.control.specs.declared.forms.Drive.{Drive}
+use Rattle.control.specs.Counts.Laws.{Matched}
 use Rattle.control.specs.Premises.{Tuned}
 use Rattle.carried.specs.declared.record.Past.{Past}
 use Rattle.carried.specs.declared.record.Carried.{Carried}
@@ -17,14 +17,16 @@ use Rattle.engine.specs.declared.sensing.Sensed.{Sensed}
 use Rattle.engine.specs.Sensing.{setpointOf}
 use Rattle.engine.specs.Driving.{startOf, pastOf}
 
--- the reading of an accepted sample
+-- the reading of an accepted sample: F and G are any two words above 0, and with bit 10 off they are one
 pub record Usable (r : Reading) (raw : ℕ) : Type 0 where
   pub tuned : Tuned (r .settings .tuning)
   pub limits : r .settings .limits .low ≤ r .settings .limits .high
   pub high : r .settings .limits .high ≤ r .settings .mode2 .output .scale
   pub scale : r .settings .mode2 .output .scale ≤ 65535
   pub some : 0 < r .settings .mode2 .output .scale
-  pub format : r .settings .mode2 .output ≡ r .settings .mode2 .input
+  pub full : r .settings .mode2 .input .scale ≤ 65535
+  pub above : 0 < r .settings .mode2 .input .scale
+  pub matched : Matched (r .settings .mode2)
   pub setpoint : setpointOf r ≤ r .settings .mode2 .input .scale
   pub input : raw ≤ r .settings .mode2 .input .scale
   pub program : Fair (r .program) (r .settings .mode2 .input .scale)
@@ -49,5 +51,5 @@ pub record Movable (s : Settings) (drive : Drive) (past : Past) (p : ℕ) (e : �
 
 abbrev pub Drivable : Reading → Carried → Sensed → ℕ → Type 0
 Drivable r c x held =
-    Movable (r .settings) (startOf (x .entry) held (c .drive)) (pastOf (not (c .sampled) || x .entry) (c .past) (x .pv) (x .error))
-    (x .pv) (x .error)
+    Movable (r .settings) (startOf (x .entry) held (c .drive))
+    (pastOf (r .settings .mode2) (not (c .sampled) || x .entry) (c .past) (x .converted) (x .error)) (x .converted) (x .error)

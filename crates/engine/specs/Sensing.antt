@@ -9,7 +9,8 @@ use Rattle.table.specs.declared.settings.Settings.{Settings}
 use Rattle.table.specs.declared.program.Program.{Program}
 use Rattle.table.specs.declared.reading.Reading.{Reading}
 use Rattle.table.specs.Modes.{isManual, isAutomatic, isCascade}
-use Rattle.control.specs.Errors.{errorOf}
+use Rattle.control.specs.Counts.{outputCounts}
+use Rattle.control.specs.Errors.{inDeadband, errorOf}
 use Rattle.profile.specs.declared.state.Profile.{Profile}
 use Rattle.profile.specs.declared.sampling.Profiled.{Profiled}
 use Rattle.profile.specs.Samples.{sampledBy}
@@ -59,11 +60,14 @@ profiledOf r q target p =
 unfoldable pub faultAfter : Reading → ℕ
 faultAfter r = cond (isCascade (r .mode)) (r .settings .stored .fault) (r .program .fault)
 
--- A5, with the loop's settings
+-- A5, with the loop's settings: the deadband by s and p in counts of the input, the error of both in counts of the output, squared over G
 unfoldable pub errorIn : Settings → ℕ → ℕ → ℤ
-errorIn s target p = errorOf (s .mode1 .squared) (s .mode2 .output .scale) (s .mode1 .deadband) (s .deadband) target p
+errorIn s target p =
+    let quiet = inDeadband (s .mode1 .deadband) (s .deadband) target p in
+    errorOf quiet (s .mode1 .squared) (s .mode2 .output .scale) (outputCounts (s .mode2) target) (outputCounts (s .mode2) p)
 
--- A1 to A5 together, from the carried mode, form, profile and mark; and (A11) these after them: in Manual a mark stays
+-- A1 to A5 together, from the carried mode, form, profile and mark; p in counts of the output as well (M7); and (A11) mode, form, profile and mark
+-- after them: in Manual a mark stays
 unfoldable pub sensedOf : Reading → State → ℕ → Sensed
 sensedOf r state raw =
     let s = r .settings in
@@ -72,6 +76,7 @@ sensedOf r state raw =
     let after = profiledOf r (state .profile) (targetOf r change (runsOn (r .program) (state .profile)) p) p in
     record {
       pv = p;
+      converted = outputCounts (s .mode2) p;
       entry = entering state (r .mode) (s .mode1 .velocity);
       setpoint = after .setpoint;
       error = errorIn s (after .setpoint) p;

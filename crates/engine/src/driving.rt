@@ -6,14 +6,15 @@ use carried::Past;
 use control::Drive;
 use control::Inputs;
 use control::Terms;
+use table::Mode2;
 use table::Reading;
 use table::Settings;
 use table::is_manual;
 ghost use mathlib.Core.Path.{_≡_};
-ghost use Prim.Native.Nat.{_≤_};
+ghost use Prim.Native.Nat.{_≤_, _<_};
 ghost use lib.IntN.{natAbs};
 ghost use Rattle.control.specs.Premises.{Tuned, Bounded};
-ghost use Rattle.engine.specs.Driving.{heldOf, startOf, pastOf, positionInputs, velocityInputs, inputsOf, termsIn, movedOf, drivenOf};
+ghost use Rattle.engine.specs.Driving.{heldOf, startOf, keptIn, pastOf, positionInputs, velocityInputs, inputsOf, termsIn, movedOf, drivenOf};
 ghost use Rattle.engine.specs.Premises.{Movable, Drivable};
 
 // A4, A10: word 5 brought inside the output limits.
@@ -38,9 +39,24 @@ fn started(entry: bool, held: u16, drive: Drive) -> Drive
     }
 }
 
-// A6: what counts as the past for the terms.
-fn past_for(fresh: bool, kept: Past, pv: u16, error: i64) -> Past
-    ensures { λ r. ⌜ r ≡ pastOf fresh kept pv error ⌝ }
+// A6: the carried PVs in counts of the output.
+fn kept_in(m: Mode2, kept: Past) -> Past
+    requires { ⌜ 0 < m .input .scale ⌝ }
+    ensures { λ r. ⌜ r ≡ keptIn m kept ⌝ }
+{
+    let last = control::output_counts(m, kept.last);
+    let prior = control::output_counts(m, kept.prior);
+    Past {
+        last,
+        prior,
+        error: kept.error,
+    }
+}
+
+// A6: what counts as the past for the terms; `pv` is in counts of the output.
+fn past_for(m: Mode2, fresh: bool, kept: Past, pv: u16, error: i64) -> Past
+    requires { ⌜ 0 < m .input .scale ⌝ }
+    ensures { λ r. ⌜ r ≡ pastOf m fresh kept pv error ⌝ }
 {
     if fresh {
         Past {
@@ -49,7 +65,7 @@ fn past_for(fresh: bool, kept: Past, pv: u16, error: i64) -> Past
             error,
         }
     } else {
-        kept
+        kept_in(m, kept)
     }
 }
 
@@ -120,20 +136,22 @@ fn moved(s: Settings, manual: bool, drive: Drive, past: Past, pv: u16, e: i64) -
 
 // A6 to A9: the bias and output after the sample. `held` is word 5 inside the limits.
 pub(crate) fn driven(reading: Reading, carried: Carried, sensed: Sensed, held: u16) -> Drive
-    requires { ⌜ Drivable reading carried sensed held ⌝ }
+    requires { ⌜ (0 < reading .settings .mode2 .input .scale) × Drivable reading carried sensed held ⌝ }
     ensures { λ r. ⌜ r ≡ drivenOf reading carried sensed held ⌝ }
 {
     let s = reading.settings;
+    let formats = s.mode2;
     let mode = reading.mode;
     let kept = carried.past;
     let before = carried.drive;
     let manual = is_manual(mode);
     let start = started(sensed.entry, held, before);
     let past = past_for(
+        formats,
         !carried.sampled | sensed.entry,
         kept,
-        sensed.pv,
+        sensed.converted,
         sensed.error,
     );
-    moved(s, manual, start, past, sensed.pv, sensed.error)
+    moved(s, manual, start, past, sensed.converted, sensed.error)
 }

@@ -13,14 +13,16 @@ use table::is_manual;
 ghost use mathlib.Core.Path.{_≡_};
 ghost use mathlib.Core.Bool.{_&&_};
 ghost use Prim.Native.Nat.{_≤_, _<_};
+ghost use Rattle.control.specs.Counts.{outputCounts};
 ghost use Rattle.engine.specs.Sensing.{pvOf, pvIn, setpointOf, changed, entering, runsOn, targetOf, profiledOf, faultAfter, errorIn, sensedOf};
 ghost use Rattle.table.specs.Modes.{isManual};
 ghost use Rattle.profile.specs.Moves.Laws.{Within};
 
-// The PV, the setpoint and the error; whether the sample is an entry; words 27 and 29; and the loop's state
-// after it.
+// PV and setpoint, in counts of the input; the PV converted to counts of the output (M7), in which the error is;
+// whether the sample is an entry; words 27 and 29; and the loop's state after it.
 pub struct Sensed {
     pub pv: u16,
+    pub converted: u16,
     pub entry: bool,
     pub setpoint: u16,
     pub error: i64,
@@ -151,29 +153,33 @@ fn fault_after(reading: Reading) -> u16
     }
 }
 
-// A5 with the loop's settings.
-fn error_in(s: Settings, target: u16, pv: u16) -> i64
-    requires { ⌜ 0 < s .mode2 .output .scale ⌝ }
+// A5 with the loop's settings. `converted` is the PV in counts of the output.
+fn error_in(s: Settings, target: u16, pv: u16, converted: u16) -> i64
+    requires { ⌜ (0 < s .mode2 .input .scale) × (0 < s .mode2 .output .scale) × (converted ≡ outputCounts (s .mode2) pv) ⌝ }
     ensures { λ r. ⌜ r ≡ errorIn s target pv ⌝ }
 {
+    let formats = s.mode2;
+    let quiet = control::in_deadband(s.mode1.deadband, s.deadband, target, pv);
+    let setpoint = control::output_counts(formats, target);
     control::error(
+        quiet,
         s.mode1.squared,
-        s.mode2.output.scale,
-        s.mode1.deadband,
-        s.deadband,
-        target,
-        pv,
+        formats.output.scale,
+        setpoint,
+        converted,
     )
 }
 
 // A1 to A5, from the carried mode, form, profile and mark.
 pub(crate) fn sensed_by(reading: Reading, state: State, raw: u16) -> Sensed
-    requires { ⌜ (0 < reading .settings .mode2 .output .scale) × Within (state .profile) × (reading .program .pair .duration ≤ 9999) ⌝ }
+    requires { ⌜ (0 < reading .settings .mode2 .input .scale) × (0 < reading .settings .mode2 .output .scale) × Within (state .profile) × (reading .program .pair .duration ≤ 9999) ⌝ }
     ensures { λ r. ⌜ r ≡ sensedOf reading state raw ⌝ }
 {
     let s = reading.settings;
+    let formats = s.mode2;
     let mode = reading.mode;
     let pv = pv_in(reading, raw);
+    let converted = control::output_counts(formats, pv);
     let entry = enters(state, mode, s.mode1.velocity);
     let change = changes(state, s.mode1.velocity);
     let program = reading.program;
@@ -184,10 +190,11 @@ pub(crate) fn sensed_by(reading: Reading, state: State, raw: u16) -> Sensed
     let setpoint = after.setpoint;
     let flags = after.flags;
     let fault = fault_after(reading);
-    let error = error_in(s, setpoint, pv);
+    let error = error_in(s, setpoint, pv, converted);
     let mark = mark_after(mode, state.mark);
     Sensed {
         pv,
+        converted,
         entry,
         setpoint,
         error,

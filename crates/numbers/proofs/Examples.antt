@@ -1,7 +1,9 @@
--- Roots computed of the definition (A1, X4), worked out by hand.
+-- Roots (A1, X4) and conversions (M7, X6) computed of the definitions, worked out by hand.
 use Prim.Native.Nat.{ℕ}
 use mathlib.Core.Path.{_≡_, refl}
 use mathlib.Core.List.{List, [], _∷_, map}
+use Rattle.numbers.specs.Rounding.{halfUp}
+use Rattle.numbers.specs.Scales.{converted}
 use Rattle.numbers.specs.Roots.{rootWithin, rootOf}
 
 pub record Case : Type 0 where
@@ -27,3 +29,33 @@ cases =
 pub computed : map (λ (c : Case). rootOf (c .v)) cases ≡ map (λ (c : Case). c .root) cases
 unfolding case cases rootWithin rootOf
 computed = refl
+
+-- a count, its full scale F, the full scale G, and what it is converted to
+pub record Conversion : Type 0 where
+  pub F : ℕ
+  pub G : ℕ
+  pub v : ℕ
+  pub count : ℕ
+
+convert : ℕ → ℕ → ℕ → ℕ → Conversion
+convert F G v count = record { F = F; G = G; v = v; count = count }
+
+pub conversions : List Conversion
+conversions =
+    -- halves go up: 1/2, 3/2 and 5/2; none occurs between the engine's scales
+    convert 2 1 1 1 ∷ convert 2 3 1 2 ∷ convert 4 2 1 1 ∷ convert 4 10 1 3
+    -- 16 to 12 bits: 0.4999 down and 0.5624 up, 999.77, 1,000.27, 4,094.44 and 4,094.5001; full scale; above it
+    ∷ convert 65535 4095 8 0 ∷ convert 65535 4095 9 1 ∷ convert 65535 4095 16000 1000 ∷ convert 65535 4095 16008 1000
+    ∷ convert 65535 4095 65526 4094 ∷ convert 65535 4095 65527 4095 ∷ convert 65535 4095 65535 4095
+    -- 12 to 16 bits: 16.004, 16,003.66; full scale
+    ∷ convert 4095 65535 1 16 ∷ convert 4095 65535 1000 16004 ∷ convert 4095 65535 4095 65535
+    -- 15 and 16 bits: 2.00003, 50,000.76 and 65,532.99997; 0.49999 and 0.99998
+    ∷ convert 32767 65535 1 2 ∷ convert 32767 65535 25000 50001 ∷ convert 32767 65535 32766 65533
+    ∷ convert 65535 32767 1 0 ∷ convert 65535 32767 2 1
+    -- above F all is G, also between equal scales
+    ∷ convert 4095 65535 4096 65535 ∷ convert 32767 4095 65535 4095 ∷ convert 4095 4095 4094 4094 ∷ convert 4095 4095 5000 4095
+    ∷ []
+
+pub computed-conversions : map (λ (c : Conversion). converted (c .F) (c .G) (c .v)) conversions ≡ map (λ (c : Conversion). c .count) conversions
+unfolding convert conversions converted halfUp
+computed-conversions = refl

@@ -3,5 +3,6 @@ pub mod Whole
 pub mod Limits
 pub mod Distances
 pub mod Rounding
+pub mod Scales
 pub mod Roots
 pub mod Fractions

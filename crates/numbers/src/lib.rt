@@ -1,4 +1,4 @@
-// The engine's numbers: signed 64-bit arithmetic, limits, rounding, and the square root.
+// The engine's numbers: signed 64-bit arithmetic, limits, rounding, full scales, and the square root.
 //
 // Each function's result is a formula over whole numbers, stated with the definitions of specs/.
 // A `requires` is a bound on the arguments; callers show it by the laws that stand beside the
@@ -7,6 +7,7 @@ mod distances;
 mod limits;
 mod roots;
 mod rounding;
+mod scales;
 mod signed;
 
 pub use distances::distance;
@@ -19,6 +20,7 @@ pub use rounding::half_up;
 pub use rounding::nearest_count;
 pub use rounding::scaled;
 pub use rounding::units;
+pub use scales::convert;
 pub use signed::difference;
 pub use signed::magnitude;
 pub use signed::to_unsigned;

@@ -7,10 +7,12 @@ use Rattle.numbers.specs.Fractions.{Fraction, over, whole, _+ᶠ_}
 use Rattle.table.specs.declared.reading.Reading.{Reading}
 use Rattle.table.specs.Modes.{isManual}
 use Rattle.control.specs.declared.terms.Inputs.{Inputs}
+use Rattle.control.specs.Counts.{outputCounts}
 use Rattle.control.specs.Terms.{exactTerms}
 use Rattle.carried.specs.declared.record.State.{State}
 use Rattle.carried.specs.declared.record.Carried.{Carried}
 use Rattle.carried.specs.Layout.{marked}
+use Rattle.engine.specs.declared.sensing.Sensed.{Sensed}
 use Rattle.engine.specs.Sensing.{sensedOf}
 use Rattle.engine.specs.Driving.{heldOf}
 use Rattle.plain.specs.Exact.{inCounts, exactOutput, exactBias}
@@ -39,24 +41,24 @@ countAfter false false (suc n) = suc (suc n)
 abbrev pub inputsOf : ℕ → ℕ → ℤ → Inputs
 inputsOf last p e = record { p = e; i = e; d = pos p -ℤ pos last }
 
--- E5: where n is now above 0, the exact terms, the exact output, and B after it; `start` and `last` are B and the last PV to start from. Where n is
--- 0, B stays: the next entry sets it before it counts. State and p are kept whatever n is
-unfoldable pub movedBy : ℕ → Plain → Reading → State → Fraction → ℕ → ℕ → ℤ → Plain
-movedBy zero q r state start last p e = record { state = state; last = p; B = q .B; n = 0; output = q .output }
-movedBy (suc n) q r state start last p e =
+-- E5: where n is now above 0, the exact terms, the exact output, and B after it; `start` is B to start from, and `last` the last PV in counts of the
+-- output (M7). Where n is 0, B stays: the next entry sets it before it counts. State and p are kept whatever n is, p in counts of the input
+unfoldable pub movedBy : ℕ → Plain → Reading → Sensed → Fraction → ℕ → Plain
+movedBy zero q r x start last = record { state = x .state; last = x .pv; B = q .B; n = 0; output = q .output }
+movedBy (suc n) q r x start last =
     let s = r .settings in
-    let terms = exactTerms (s .tuning) (s .mode2 .minutes) (s .mode1 .reverse) (inputsOf last p e) in
+    let terms = exactTerms (s .tuning) (s .mode2 .minutes) (s .mode1 .reverse) (inputsOf last (x .converted) (x .error)) in
     let output = exactOutput (s .limits .low) (s .limits .high) start terms in
-    record { state = state; last = p; B = exactBias output terms; n = suc n; output = output }
+    record { state = x .state; last = x .pv; B = exactBias output terms; n = suc n; output = output }
 
 -- E3 to E5: an accepted sample of its loop. p, s and e are those of A1 to A5 from its own state; an entry starts B at word 5 inside its
--- limits, and the last PV at p
+-- limits, and the last PV at p; else the last PV is converted by this sample's formats (A6)
 unfoldable pub plainAfter : Plain → Reading → ℕ → Plain
 plainAfter q r raw =
     let s = r .settings in
     let x = sensedOf r (q .state) raw in
     let n = countAfter (isManual (r .mode) || s .mode1 .freeze || s .mode1 .velocity) (x .entry) (q .n) in
-    movedBy n q r (x .state) (cond (x .entry) (whole (pos (heldOf s))) (q .B)) (cond (x .entry) (x .pv) (q .last)) (x .pv) (x .error)
+    movedBy n q r x (cond (x .entry) (whole (pos (heldOf s))) (q .B)) (cond (x .entry) (x .converted) (outputCounts (s .mode2) (q .last)))
 
 -- E3, A13: another loop's transfer to it sets the mark, and nothing else
 unfoldable pub plainMarked : Plain → Plain

@@ -1,6 +1,6 @@
 -- A loop's 32 words read as its settings, each word by its place in W2's table.
 use Prim.Native.Nat.{ℕ}
-use mathlib.Core.Bool.{Bool, _||_}
+use mathlib.Core.Bool.{Bool, not, _&&_, _||_}
 use mathlib.Core.List.{List, [], _∷_}
 use lib.ListN.{getD}
 use Rattle.table.specs.declared.settings.Mode1.{Mode1}
@@ -10,7 +10,7 @@ use Rattle.table.specs.declared.settings.AlarmLimits.{AlarmLimits}
 use Rattle.table.specs.declared.settings.OutputLimits.{OutputLimits}
 use Rattle.table.specs.declared.settings.Stored.{Stored}
 use Rattle.table.specs.declared.settings.Settings.{Settings}
-use Rattle.table.specs.Words.{bit, bcd, badDigit, formatOf, any}
+use Rattle.table.specs.Words.{bit, bcd, badDigit, inputFormat, outputFormat, any}
 pub mod Laws
 
 -- M1: mode 1, word 0
@@ -33,7 +33,7 @@ mode1Of word = record {
   change = bit 14 word;
 }
 
--- M2: a bit of mode 2 is on that has to be off
+-- M2: a bit of mode 2 is on that has to be off, 12 and 13 among them with bit 10 off
 abbrev pub unusedBits : ℕ → Bool
 unusedBits word =
     any
@@ -43,17 +43,21 @@ unusedBits word =
     ∷ bit 5 word
     ∷ bit 6 word
     ∷ bit 7 word
-    ∷ bit 10 word
     ∷ bit 11 word
-    ∷ bit 12 word
-    ∷ bit 13 word
     ∷ bit 14 word
     ∷ bit 15 word
+    ∷ (not (bit 10 word) && (bit 12 word || bit 13 word))
     ∷ [])
 
 -- M2: mode 2, word 1
 unfoldable pub mode2Of : ℕ → Mode2
-mode2Of word = record { input = formatOf word; output = formatOf word; minutes = bit 4 word; unused = unusedBits word }
+mode2Of word = record {
+  input = inputFormat word;
+  output = outputFormat word;
+  separate = bit 10 word;
+  minutes = bit 4 word;
+  unused = unusedBits word;
+}
 
 -- N7: one of words 7 to 10 has a digit above 9
 unfoldable pub badDigits : List ℕ → Bool

@@ -23,9 +23,17 @@ badDigit word = ltb 9 (word / 4096 % 16) || ltb 9 (word / 256 % 16) || ltb 9 (wo
 abbrev pub clearRequests : ℕ → ℕ
 clearRequests word = word / 8 * 8
 
--- M3: the full scale by bits 9 and 1 of mode 2, bit 9 first
-abbrev pub formatOf : ℕ → Format
-formatOf word = cond (bit 9 word) (record { scale = 65535 }) (cond (bit 1 word) (record { scale = 32767 }) (record { scale = 4095 }))
+-- M3: a format by its bits for 16 and for 15 bits: the first where it is on, whatever the second is; with both off 12
+abbrev pub formatBy : Bool → Bool → Format
+formatBy sixteen fifteen = cond sixteen (record { scale = 65535 }) (cond fifteen (record { scale = 32767 }) (record { scale = 4095 }))
+
+-- M3: the input's, of full scale F, by bits 9 and 1 of mode 2
+abbrev pub inputFormat : ℕ → Format
+inputFormat word = formatBy (bit 9 word) (bit 1 word)
+
+-- M3: the output's, of full scale G: with bit 10 on by bits 13 and 12, else the input's
+abbrev pub outputFormat : ℕ → Format
+outputFormat word = cond (bit 10 word) (formatBy (bit 13 word) (bit 12 word)) (inputFormat word)
 
 -- W1: the address of word 0 of loop k
 abbrev pub baseOf : ℕ → ℕ

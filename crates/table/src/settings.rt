@@ -53,9 +53,10 @@ pub struct Mode1 {
 // M2: the bits of mode 2. Bit 8 is ignored.
 pub struct Mode2 {
     pub input: Format, // 1 and 9: of PVs and setpoint
-    pub output: Format, // the same: of output, its limits and bias
+    pub output: Format, // 10, 12 and 13: of output, its limits, bias and error
+    pub separate: bool, // 10: the output has a format of its own
     pub minutes: bool, // 4: reset in minutes
-    pub unused: bool, // any bit but 1, 4, 8 and 9
+    pub unused: bool, // a bit that has to be off
 }
 
 // W3: the BCD words, in hundredths: of a second, for the reset time by M2 of a minute, for the gain of 1.
@@ -136,22 +137,22 @@ fn unused_bits(word: u16) -> bool
         | (word / 32 % 2 == 1)
         | (word / 64 % 2 == 1)
         | (word / 128 % 2 == 1)
-        | (word / 1024 % 2 == 1)
         | (word / 2048 % 2 == 1)
-        | (word / 4096 % 2 == 1)
-        | (word / 8192 % 2 == 1)
         | (word / 16384 % 2 == 1)
         | (word / 32768 % 2 == 1)
+        | (!(word / 1024 % 2 == 1) & ((word / 4096 % 2 == 1) | (word / 8192 % 2 == 1)))
 }
 
 fn read_mode2(word: u16) -> Mode2
     ensures { λ r. ⌜ r ≡ mode2Of word ⌝ }
 {
-    let format = Format::new(word);
+    let input = Format::new(word);
+    let output = Format::of_output(word);
     let unused = unused_bits(word);
     Mode2 {
-        input: format,
-        output: format,
+        input,
+        output,
+        separate: word / 1024 % 2 == 1,
         minutes: word / 16 % 2 == 1,
         unused,
     }

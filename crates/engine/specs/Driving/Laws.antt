@@ -8,15 +8,17 @@ use lib.Signed.{_≤ℤ_}
 use Rattle.numbers.specs.Whole.{linear, add, sub, abs, abs-in, abs-sub}
 use Rattle.numbers.specs.Limits.Laws.{by-test, clamped, orderℕ}
 use Rattle.numbers.specs.Rounding.{unitsOf}
+use Rattle.table.specs.declared.settings.Mode2.{Mode2}
 use Rattle.table.specs.declared.settings.Settings.{Settings}
 use Rattle.control.specs.declared.forms.Drive.{Drive}
 use Rattle.control.specs.declared.terms.Inputs.{Inputs}
+use Rattle.control.specs.Counts.Laws.{counts-word}
 use Rattle.control.specs.Premises.{Tuned, Bounded, Ready}
 use Rattle.control.specs.Terms.Laws.{terms-high, terms-still, terms-close}
 use Rattle.control.specs.Forms.{velocityOf}
 use Rattle.control.specs.Forms.Laws.{Inside, position-inside, velocity-inside, position-still, velocity-still, position-bias}
 use Rattle.carried.specs.declared.record.Past.{Past}
-use Rattle.engine.specs.Driving.{heldOf, startOf, pastOf, positionInputs, velocityInputs, inputsOf, termsIn, lowUnits, highUnits, movedPosition, movedVelocity, movedOf}
+use Rattle.engine.specs.Driving.{heldOf, startOf, keptIn, pastOf, positionInputs, velocityInputs, inputsOf, termsIn, lowUnits, highUnits, movedPosition, movedVelocity, movedOf}
 use Rattle.engine.specs.Premises.{Counted, Movable}
 
 -- word 5 brought inside the limits is within them
@@ -47,9 +49,12 @@ pub record Remembered (past : Past) : Type 0 where
   pub prior : past .prior ≤ 65535
   pub error : natAbs (past .error) ≤ 65535
 
-pub past-high : (fresh : Bool) (kept : Past) {p : ℕ} (e : ℤ) → p ≤ 65535 → natAbs e ≤ 65535 → Remembered kept → Remembered (pastOf fresh kept p e)
-unfolding pastOf
-past-high fresh kept e h l m = by-test Remembered fresh (λ _. record { last = h; prior = h; error = l }) (λ _. m)
+pub past-high : (m : Mode2) → m .output .scale ≤ 65535 → (fresh : Bool) (kept : Past) {p : ℕ} (e : ℤ) → p ≤ 65535 → natAbs e ≤ 65535 → Remembered kept
+    → Remembered (pastOf m fresh kept p e)
+unfolding pastOf keptIn
+past-high m word fresh kept e h l g =
+    by-test Remembered fresh (λ _. record { last = h; prior = h; error = l })
+    (λ _. record { last = counts-word m word (g .last); prior = counts-word m word (g .prior); error = g .error })
 
 -- ---- what the terms act on, and so how large they are
 
@@ -123,7 +128,7 @@ module _ {s : Settings} {drive : Drive} {past : Past} {p : ℕ} {e : ℤ} (m : M
 
 -- it goes on from word 5 inside the limits, in either form, whatever was carried
 pub entry-still : (s : Settings) → Tuned (s .tuning) → s .limits .low ≤ s .limits .high → (drive : Drive) (kept : Past) (p : ℕ)
-    → movedOf s false (startOf true (heldOf s) drive) (pastOf true kept p (pos 0)) p (pos 0) .output ≡ pos (unitsOf (heldOf s))
+    → movedOf s false (startOf true (heldOf s) drive) (pastOf (s .mode2) true kept p (pos 0)) p (pos 0) .output ≡ pos (unitsOf (heldOf s))
 unfolding movedOf movedPosition movedVelocity termsIn startOf pastOf positionInputs velocityInputs
 entry-still s tuned l drive kept p =
     let held : Drive = record { bias = pos (unitsOf (heldOf s)); output = pos (unitsOf (heldOf s)) } in

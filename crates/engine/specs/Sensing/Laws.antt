@@ -4,13 +4,16 @@ use native.Mathlib.Omega.{arith}
 use native.Mathlib.Nat.{mul-le-mul, mul-le-mul-right}
 use mathlib.Core.Path.{_≡_}
 use mathlib.Core.Bool.{Bool, not, _&&_, _||_}
-use lib.IntN.{pos}
+use lib.IntN.{pos, natAbs}
 use Rattle.numbers.specs.Limits.Laws.{by-test}
 use Rattle.numbers.specs.Roots.Laws.{root-exact, root-high}
 use Rattle.table.specs.declared.settings.Settings.{Settings}
 use Rattle.table.specs.declared.reading.Reading.{Reading}
 use Rattle.table.specs.Modes.{isAutomatic, isCascade}
-use Rattle.control.specs.Errors.Laws.{error-none}
+use Rattle.control.specs.Counts.{outputCounts}
+use Rattle.control.specs.Counts.Laws.{Matched, counts-high}
+use Rattle.control.specs.Errors.{inDeadband}
+use Rattle.control.specs.Errors.Laws.{error-none, error-high}
 use Rattle.profile.specs.declared.state.Profile.{Profile}
 use Rattle.profile.specs.declared.sampling.Profiled.{Profiled}
 use Rattle.profile.specs.Moves.Laws.{Within, advanced-within, advanced-scale}
@@ -47,4 +50,12 @@ module _ (r : Reading) {q : Profile} (w : Within q) (target p : ℕ) where
 -- with the setpoint at the PV there is no error
 pub settled-error : (s : Settings) (p : ℕ) → 0 < s .mode2 .output .scale → errorIn s p p ≡ pos 0
 unfolding errorIn
-settled-error s p some = error-none (s .mode1 .squared) (s .mode1 .deadband) (s .deadband) p some
+settled-error s p some = error-none (inDeadband (s .mode1 .deadband) (s .deadband) p p) (s .mode1 .squared) (outputCounts (s .mode2) p) some
+
+-- setpoint and PV within the input's full scale leave an error within the output's
+pub sensed-error : (s : Settings) → Matched (s .mode2) → 0 < s .mode2 .output .scale → {target p : ℕ} → target ≤ s .mode2 .input .scale
+    → p ≤ s .mode2 .input .scale → natAbs (errorIn s target p) ≤ s .mode2 .output .scale
+unfolding errorIn
+sensed-error s matched some {target} {p} h l =
+    error-high (inDeadband (s .mode1 .deadband) (s .deadband) target p) (s .mode1 .squared) some
+    (counts-high (s .mode2) matched h) (counts-high (s .mode2) matched l)

@@ -14,19 +14,23 @@ use Rattle.numbers.specs.Rounding.Laws.{half-up-whole}
 use Rattle.refusals.specs.declared.Answer.the-variants.{Accepted}
 use Rattle.refusals.specs.Refusals.{firstOf}
 use Rattle.table.specs.declared.format.Format.{Format}
+use Rattle.table.specs.declared.settings.Settings.{Settings}
 use Rattle.table.specs.declared.mode.Mode.{Mode}
 use Rattle.table.specs.declared.reading.Reading.{Reading}
 use Rattle.table.specs.Modes.{isManual, isCascade}
 use Rattle.table.specs.Reading.{readingOf}
 use Rattle.table.specs.Words.Laws.{or-false}
-use Rattle.table.specs.Reading.Laws.{input-low, input-high, one-format, decimals, fair}
-use Rattle.control.specs.Errors.Laws.{error-high}
+use Rattle.table.specs.Reading.Laws.{input-scale, output-scale, one-format, decimals, fair}
+use Rattle.control.specs.Counts.Laws.{counts-high}
+use Rattle.profile.specs.Moves.Laws.{Within}
+use Rattle.carried.specs.declared.record.State.{State}
 use Rattle.carried.specs.declared.record.Carried.{Carried}
 use Rattle.carried.specs.Ranged.{Ranged}
 use Rattle.judging.specs.Judging.{readingCases}
 use Rattle.judging.specs.Judging.Laws.{passed, times-good, limits-good, setpoint-good}
-use Rattle.engine.specs.Sensing.{setpointOf, changed, runsOn, targetOf, errorIn, sensedOf}
-use Rattle.engine.specs.Sensing.Laws.{pv-high, target-high, profiled-within, profiled-scale}
+use Rattle.engine.specs.declared.sensing.Sensed.{Sensed}
+use Rattle.engine.specs.Sensing.{pvIn, setpointOf, changed, runsOn, targetOf, sensedOf}
+use Rattle.engine.specs.Sensing.Laws.{pv-high, target-high, profiled-within, profiled-scale, sensed-error}
 use Rattle.engine.specs.Driving.{heldOf, startOf, pastOf, movedOf, drivenOf}
 use Rattle.engine.specs.Driving.Laws.{held-high, start-bias, start-output, Remembered, past-high, moved-output, moved-bias, entry-still}
 use Rattle.engine.specs.Writing.{outputWord, writtenOf, nextOf}
@@ -45,7 +49,8 @@ usable ws k former segment raw few e =
     let digits = decimals ws k former segment (clean .0) in
     let times = times-good (s .tuning) (p .times) in
     let limits = limits-good (s .limits) (s .mode2 .output .scale) (p .limits) in
-    let same : s .mode2 .output .scale ≡ s .mode2 .input .scale = ap (λ (f : Format). f .scale) (one-format ws k former segment) in
+    let input = input-scale ws k former segment in
+    let output = output-scale ws k former segment in
     record {
       tuned = record {
         period = digits .period;
@@ -57,40 +62,53 @@ usable ws k former segment raw few e =
       };
       limits = limits .0;
       high = limits .1;
-      scale = omega (arith, same, input-high ws k former segment);
-      some = omega (arith, same, input-low ws k former segment);
-      format = one-format ws k former segment;
+      scale = output .high;
+      some = omega (arith, output .low);
+      full = input .high;
+      above = omega (arith, input .low);
+      matched = λ off. ap (λ (f : Format). f .scale) (one-format ws k former segment off);
       setpoint = setpoint-good (isCascade (r .mode)) _ (s .stored .setpoint) (s .pointer) (r .remote) (p .setpoint);
       input = ltb-false _ _ (p .above);
       program = fair ws k former segment few (clean .1) (p .ends);
     }
 
+-- it senses a PV and a setpoint within the input's full scale, and so, within the output's, the PV converted and an error
+pub record Scaled (s : Settings) (x : Sensed) : Type 0 where
+  pub pv : x .pv ≤ s .mode2 .input .scale
+  pub setpoint : x .setpoint ≤ s .mode2 .input .scale
+  pub converted : x .converted ≤ s .mode2 .output .scale
+  pub error : natAbs (x .error) ≤ s .mode2 .output .scale
+
+pub sensed-scaled : {r : Reading} {raw : ℕ} → Usable r raw → (state : State) → Within (state .profile) → Scaled (r .settings) (sensedOf r state raw)
+unfolding sensedOf
+sensed-scaled {r} {raw} u state w =
+    let s = r .settings in
+    let p = pvIn r raw in
+    let pv = pv-high (s .mode1 .root) (u .full) (u .input) in
+    let runs = runsOn (r .program) (state .profile) in
+    let change = changed state (s .mode1 .velocity) in
+    let target = profiled-scale r w (targetOf r change runs p) p (target-high r change runs pv (u .setpoint)) (u .program .end) in
+    record { pv = pv; setpoint = target; converted = counts-high (s .mode2) (u .matched) pv; error = sensed-error s (u .matched) (u .some) target pv }
+
 -- so the terms can run
 pub drivable : {r : Reading} {c : Carried} {raw : ℕ} → Usable r raw → Ranged c → Drivable r c (sensedOf r (c .state) raw) (heldOf (r .settings))
-unfolding sensedOf errorIn
 drivable {r} {c} {raw} u g =
     let s = r .settings in
-    let scale = s .mode2 .output .scale in
     let x = sensedOf r (c .state) raw in
-    let same : scale ≡ s .mode2 .input .scale = ap (λ (f : Format). f .scale) (u .format) in
-    let pv : x .pv ≤ scale = rw same (pv-high (s .mode1 .root) (omega (arith, same, u .scale)) (u .input)) in
-    let own : setpointOf r ≤ scale = omega (arith, same, u .setpoint) in
-    let runs = runsOn (r .program) (c .state .profile) in
-    let end : r .program .pair .end ≤ scale = omega (arith, same, u .program .end) in
-    let change = changed (c .state) (s .mode1 .velocity) in
-    let target = profiled-scale r (g .profile) (targetOf r change runs (x .pv)) (x .pv) (target-high r change runs pv own) end in
-    let error = error-high (s .mode1 .squared) (s .mode1 .deadband) (s .deadband) (u .some) target pv in
+    let scaled = sensed-scaled u (c .state) (g .profile) in
     let held : heldOf s ≤ 65535 = omega (arith, held-high s (u .limits), u .high, u .scale) in
     let kept : Remembered (c .past) = record { last = g .last; prior = g .prior; error = g .error } in
-    let past = past-high (not (c .sampled) || x .entry) (c .past) {p = x .pv} (x .error) (omega arith) (omega arith) kept in
+    let pv : x .converted ≤ 65535 = omega (arith, scaled .converted, u .scale) in
+    let error : natAbs (x .error) ≤ 65535 = omega (arith, scaled .error, u .scale) in
+    let past = past-high (s .mode2) (u .scale) (not (c .sampled) || x .entry) (c .past) (x .error) pv error kept in
     record {
       tuned = u .tuned;
       limits = u .limits;
       high = omega (arith, u .high, u .scale);
       bias = start-bias (x .entry) (c .drive) held (g .bias);
       output = start-output (x .entry) (c .drive) held (record { low = g .positive; high = g .output });
-      pv = omega arith;
-      error = omega arith;
+      pv = pv;
+      error = error;
       recorded = past .error;
       last = past .last;
       prior = past .prior;
@@ -102,13 +120,14 @@ unfolding stepOf nextOf drivenOf sensedOf
 stepped-ranged {r} {c} {raw} u g =
     let m = drivable u g in
     let out = moved-output m (isManual (r .mode)) in
+    let pv : sensedOf r (c .state) raw .pv ≤ 65535 = omega (arith, sensed-scaled u (c .state) (g .profile) .pv, u .full) in
     record {
       bias = moved-bias m (isManual (r .mode));
       positive = out .low;
       output = out .high;
       error = m .error;
-      last = m .pv;
-      prior = by-test (λ n. n ≤ 65535) (c .sampled) (λ _. g .last) (λ _. m .pv);
+      last = pv;
+      prior = by-test (λ n. n ≤ 65535) (c .sampled) (λ _. g .last) (λ _. pv);
       profile = profiled-within r (g .profile) _ _ (u .program .duration);
     }
 
@@ -119,6 +138,6 @@ unfolding stepOf writtenOf drivenOf outputWord
 entry-output {r} {raw} c u entry none = rw (entry, none, or-true (not (c .sampled))) (go (isManual (r .mode)))
   where
     go : (manual : Bool)
-        → cond manual (heldOf (r .settings)) (nearestCount (natAbs (movedOf (r .settings) manual (startOf true (heldOf (r .settings)) (c .drive)) (pastOf true (c .past) (sensedOf r (c .state) raw .pv) (pos 0)) (sensedOf r (c .state) raw .pv) (pos 0) .output))) ≡ heldOf (r .settings)
+        → cond manual (heldOf (r .settings)) (nearestCount (natAbs (movedOf (r .settings) manual (startOf true (heldOf (r .settings)) (c .drive)) (pastOf (r .settings .mode2) true (c .past) (sensedOf r (c .state) raw .converted) (pos 0)) (sensedOf r (c .state) raw .converted) (pos 0) .output))) ≡ heldOf (r .settings)
     go true = refl
-    go false = rw (entry-still (r .settings) (u .tuned) (u .limits) (c .drive) (c .past) (sensedOf r (c .state) raw .pv)) (ap nearestCount (mul-comm (heldOf (r .settings)) 262144) ∙ half-up-whole (heldOf (r .settings)) {d = 262144} (lit< tt))
+    go false = rw (entry-still (r .settings) (u .tuned) (u .limits) (c .drive) (c .past) (sensedOf r (c .state) raw .converted)) (ap nearestCount (mul-comm (heldOf (r .settings)) 262144) ∙ half-up-whole (heldOf (r .settings)) {d = 262144} (lit< tt))

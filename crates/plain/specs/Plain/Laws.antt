@@ -13,6 +13,7 @@ use Rattle.numbers.specs.Fractions.Laws.{at-over, at-add, at-in, near-in, near-
 use Rattle.table.specs.declared.reading.Reading.{Reading}
 use Rattle.table.specs.Modes.{isManual}
 use Rattle.control.specs.declared.forms.Drive.{Drive}
+use Rattle.control.specs.Counts.{outputCounts}
 use Rattle.control.specs.Terms.{exactTerms, termsOf}
 use Rattle.control.specs.Forms.{positionOf}
 use Rattle.carried.specs.declared.record.State.{State}
@@ -22,7 +23,7 @@ use Rattle.carried.specs.Layout.{marked, markedRecord}
 use Rattle.carried.specs.Ranged.{Ranged}
 use Rattle.engine.specs.declared.sensing.Sensed.{Sensed}
 use Rattle.engine.specs.Sensing.{sensedOf}
-use Rattle.engine.specs.Driving.{heldOf, startOf, lowUnits, highUnits, pastOf, positionInputs, termsIn, movedPosition, movedOf, drivenOf}
+use Rattle.engine.specs.Driving.{heldOf, startOf, lowUnits, highUnits, keptIn, pastOf, positionInputs, termsIn, movedPosition, movedOf, drivenOf}
 use Rattle.engine.specs.Driving.Laws.{moved-inside}
 use Rattle.engine.specs.Writing.{outputWord, nextOf, writtenOf}
 use Rattle.engine.specs.Steps.{stepOf}
@@ -84,11 +85,11 @@ module _ {r : Reading} {c : Carried} {raw : ℕ} (u : Usable r raw) (g : Ranged 
   start = startOf (x .entry) (heldOf (r .settings)) (c .drive)
 
   abbrev past : Past
-  past = pastOf (not (c .sampled) || x .entry) (c .past) (x .pv) (x .error)
+  past = pastOf (r .settings .mode2) (not (c .sampled) || x .entry) (c .past) (x .converted) (x .error)
 
   -- the drive after the sample, as `manual` says the mode is
   abbrev drive : Bool → Drive
-  drive manual = movedOf (r .settings) manual start past (x .pv) (x .error)
+  drive manual = movedOf (r .settings) manual start past (x .converted) (x .error)
 
   -- what is claimed of it, with q′ the plain loop after it
   abbrev Both : Bool → Plain → Type 0
@@ -97,7 +98,7 @@ module _ {r : Reading} {c : Carried} {raw : ℕ} (u : Usable r raw) (g : Ranged 
       × Tied (nextOf c x (drive manual)) q′
 
   -- nothing but the limits is claimed where n is 0
-  quiet : (manual : Bool) (B : Fraction) (l : ℕ) → Both manual (movedBy 0 q r (x .state) B l (x .pv) (x .error))
+  quiet : (manual : Bool) (B : Fraction) (l : ℕ) → Both manual (movedBy 0 q r x B l)
   unfolding movedBy nextOf
   quiet manual B l = (
     record { inside = word-inside manual (drivable u g); near = λ h. absurd (omega arith) },
@@ -111,15 +112,15 @@ module _ {r : Reading} {c : Carried} {raw : ℕ} (u : Usable r raw) (g : Ranged 
 
   -- the n + 1-st sample, on a bias within n units of B
   module _ (velocity : r .settings .mode1 .velocity ≡ false) (freeze : r .settings .mode1 .freeze ≡ false) where
-    moved-is : drive false ≡ positionOf false start (termsIn (r .settings) (positionInputs past (x .pv) (x .error))) (lowUnits (r .settings)) (highUnits (r .settings))
+    moved-is : drive false ≡ positionOf false start (termsIn (r .settings) (positionInputs past (x .converted) (x .error))) (lowUnits (r .settings)) (highUnits (r .settings))
     unfolding movedOf movedPosition
     moved-is = rw (velocity, freeze)
 
-    loud : (n : ℕ) (B : Fraction) → Near (inCounts (pos n)) (inCounts (start .bias)) B → Both false (movedBy (suc n) q r (x .state) B (past .last) (x .pv) (x .error))
+    loud : (n : ℕ) (B : Fraction) → Near (inCounts (pos n)) (inCounts (start .bias)) B → Both false (movedBy (suc n) q r x B (past .last))
     unfolding movedBy nextOf termsIn termsOf positionInputs outputWord tolerance
     loud n B h =
         let s = r .settings in
-        let t = exactTerms (s .tuning) (s .mode2 .minutes) (s .mode1 .reverse) (inputsOf (past .last) (x .pv) (x .error)) in
+        let t = exactTerms (s .tuning) (s .mode2 .minutes) (s .mode1 .reverse) (inputsOf (past .last) (x .converted) (x .error)) in
         let exact = exactOutput (s .limits .low) (s .limits .high) B t in
         let near = position-near (u .limits) n start B t h in
         let out : Near (inCounts (pos (n + 2))) (inCounts (drive false .output)) exact = rw moved-is (near .0) in
@@ -134,24 +135,25 @@ module _ {r : Reading} {c : Carried} {raw : ℕ} (u : Usable r raw) (g : Ranged 
   -- by whether the sample is an entry, and the plain loop's count
   abbrev after : Bool → Bool → ℕ → Plain
   after idle entry n =
-      movedBy (countAfter idle entry n) q r (x .state) (cond entry (whole (pos (heldOf (r .settings)))) (q .B)) (cond entry (x .pv) (q .last)) (x .pv) (x .error)
+      movedBy (countAfter idle entry n) q r x (cond entry (whole (pos (heldOf (r .settings)))) (q .B))
+      (cond entry (x .converted) (outputCounts (r .settings .mode2) (q .last)))
 
   module _ (t : Tied c q) (velocity : r .settings .mode1 .velocity ≡ false) (freeze : r .settings .mode1 .freeze ≡ false) where
     entered : x .entry ≡ true → Both false (after false true (q .n))
     unfolding countAfter startOf pastOf
     entered e =
-        let last : past .last ≡ x .pv = rw (e, or-true (not (c .sampled))) in
+        let last : past .last ≡ x .converted = rw (e, or-true (not (c .sampled))) in
         let near : Near (inCounts (pos 0)) (inCounts (start .bias)) (whole (pos (heldOf (r .settings)))) = rw e (entry-near (heldOf (r .settings))) in
-        subst (λ (l : ℕ). Both false (movedBy 1 q r (x .state) (whole (pos (heldOf (r .settings)))) l (x .pv) (x .error))) last (loud velocity freeze 0 _ near)
+        subst (λ (l : ℕ). Both false (movedBy 1 q r x (whole (pos (heldOf (r .settings)))) l)) last (loud velocity freeze 0 _ near)
 
     went-on : x .entry ≡ false → (n : ℕ) → q .n ≡ n → Both false (after false false n)
-    unfolding countAfter startOf pastOf
-    went-on e zero k = quiet false (q .B) (q .last)
+    unfolding countAfter startOf pastOf keptIn
+    went-on e zero k = quiet false (q .B) _
     went-on e (suc n) k =
         let above : 0 < q .n = omega arith in
-        let last : past .last ≡ q .last = rw (e, t .sampled above) (t .last above) in
+        let last : past .last ≡ outputCounts (r .settings .mode2) (q .last) = rw (e, t .sampled above) (ap (outputCounts (r .settings .mode2)) (t .last above)) in
         let near : Near (inCounts (pos (suc n))) (inCounts (start .bias)) (q .B) = rw e (rw k at (t .bias above)) in
-        subst (λ (l : ℕ). Both false (movedBy (suc (suc n)) q r (x .state) (q .B) l (x .pv) (x .error))) last (loud velocity freeze (suc n) (q .B) near)
+        subst (λ (l : ℕ). Both false (movedBy (suc (suc n)) q r x (q .B) l)) last (loud velocity freeze (suc n) (q .B) near)
 
     counted : (entry : Bool) → x .entry ≡ entry → Both false (after false entry (q .n))
     counted true e = entered e

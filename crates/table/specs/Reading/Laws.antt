@@ -10,7 +10,7 @@ use Rattle.table.specs.declared.mode.Mode.the-variants.{Manual, Automati
 use Rattle.table.specs.declared.settings.Mode1.{Mode1}
 use Rattle.table.specs.declared.reading.Reading.{Reading}
 use Rattle.table.specs.Words.{baseOf, blockAt}
-use Rattle.table.specs.Words.Laws.{block-at, scale-low, scale-high}
+use Rattle.table.specs.Words.Laws.{block-at, Scaled, input-scaled, output-scaled}
 use Rattle.table.specs.Modes.{isAutomatic, isCascade}
 use Rattle.table.specs.Settings.{mode2Of, settingsOf}
 use Rattle.table.specs.Settings.Laws.{Decimals, tuning-high}
@@ -90,18 +90,19 @@ module _ (ws : List ℕ) (k : ℕ) (former : Mode) (segment : ℕ) where
   limit-high = block-at ws (baseOf k) 25 (lit< tt)
 
   -- a full scale is a word, and not 0
-  pub input-low : 4095 ≤ readingOf ws k former segment .settings .mode2 .input .scale
+  pub input-scale : Scaled (readingOf ws k former segment .settings .mode2 .input)
   unfolding readingOf settingsOf mode2Of
-  input-low = scale-low (getD (blockAt ws (baseOf k)) 1 0)
+  input-scale = input-scaled (getD (blockAt ws (baseOf k)) 1 0)
 
-  pub input-high : readingOf ws k former segment .settings .mode2 .input .scale ≤ 65535
+  pub output-scale : Scaled (readingOf ws k former segment .settings .mode2 .output)
   unfolding readingOf settingsOf mode2Of
-  input-high = scale-high (getD (blockAt ws (baseOf k)) 1 0)
+  output-scale = output-scaled (getD (blockAt ws (baseOf k)) 1 0)
 
-  -- both formats are the same
-  pub one-format : readingOf ws k former segment .settings .mode2 .output ≡ readingOf ws k former segment .settings .mode2 .input
+  -- with bit 10 off both formats are the same
+  pub one-format : readingOf ws k former segment .settings .mode2 .separate ≡ false
+      → readingOf ws k former segment .settings .mode2 .output ≡ readingOf ws k former segment .settings .mode2 .input
   unfolding readingOf settingsOf mode2Of
-  one-format = refl
+  one-format e = rw e
 
   -- words of good digits are at most 9,999
   pub decimals : readingOf ws k former segment .settings .baddigit ≡ false → Decimals (readingOf ws k former segment .settings .tuning)

@@ -11,7 +11,7 @@ use lib.Pow.{shl-shr, shr-shr}
 use lib.Dec.{ltb}
 use borrow.Author.Tests.{ltb-false}
 use Rattle.table.specs.declared.format.Format.{Format}
-use Rattle.table.specs.Words.{bit, bcd, badDigit, clearRequests, formatOf, blockAt, any, anyAfter}
+use Rattle.table.specs.Words.{bit, bcd, badDigit, clearRequests, formatBy, inputFormat, outputFormat, blockAt, any, anyAfter}
 
 pub or-false : (a b : Bool) → (a || b) ≡ false → (a ≡ false) × (b ≡ false)
 or-false true b e = let z : true ≡ false = e in (z, cc)
@@ -48,16 +48,30 @@ chosen : (P : ℕ → Type 0) (b : Bool) {f g : Format} → P (f .scale) → P (
 chosen P true p q = p
 chosen P false p q = q
 
--- what holds of the three full scales holds of a word's
-scale-is : (P : ℕ → Type 0) → P 65535 → P 32767 → P 4095 → (word : ℕ) → P (formatOf word .scale)
-scale-is P p q r word = chosen P (bit 9 word) p (chosen P (bit 1 word) q r)
+-- what holds of the three full scales holds of a format's, and of the two that a word gives
+scale-is : (P : ℕ → Type 0) → P 65535 → P 32767 → P 4095 → (sixteen fifteen : Bool) → P (formatBy sixteen fifteen .scale)
+scale-is P p q r sixteen fifteen = chosen P sixteen p (chosen P fifteen q r)
 
 -- a full scale is a word, and not 0
-pub scale-high : (word : ℕ) → formatOf word .scale ≤ 65535
-scale-high word = scale-is (λ n. n ≤ 65535) (omega arith) (omega arith) (omega arith) word
+pub record Scaled (f : Format) : Type 0 where
+  pub low : 4095 ≤ f .scale
+  pub high : f .scale ≤ 65535
 
-pub scale-low : (word : ℕ) → 4095 ≤ formatOf word .scale
-scale-low word = scale-is (λ n. 4095 ≤ n) (omega arith) (omega arith) (omega arith) word
+format-scaled : (sixteen fifteen : Bool) → Scaled (formatBy sixteen fifteen)
+format-scaled sixteen fifteen = record {
+  low = scale-is (λ n. 4095 ≤ n) (omega arith) (omega arith) (omega arith) sixteen fifteen;
+  high = scale-is (λ n. n ≤ 65535) (omega arith) (omega arith) (omega arith) sixteen fifteen;
+}
+
+pub input-scaled : (word : ℕ) → Scaled (inputFormat word)
+input-scaled word = format-scaled (bit 9 word) (bit 1 word)
+
+pub output-scaled : (word : ℕ) → Scaled (outputFormat word)
+output-scaled word = go (bit 10 word)
+  where
+    go : (separate : Bool) → Scaled (cond separate (formatBy (bit 13 word) (bit 12 word)) (inputFormat word))
+    go true = format-scaled (bit 13 word) (bit 12 word)
+    go false = input-scaled word
 
 even : (word k : ℕ) → k < 3 → word / 8 * 8 / 2 ^ k % 2 ≡ 0
 even word zero h = omega arith

@@ -9,7 +9,6 @@ use Rattle.refusals.specs.declared.Refusal.the-variants.{Transfer as NoTransfer
 use Rattle.refusals.specs.Refusals.{_⇒_, firstOf}
 use Rattle.table.specs.declared.reading.Reading.{Reading}
 use Rattle.table.specs.Transfers.{majorIn}
-use Rattle.table.specs.Reading.Laws.{input-high}
 use Rattle.carried.specs.declared.record.Carried.{Carried}
 use Rattle.judging.specs.Judging.{readingCases, badMajor}
 use Rattle.engine.specs.Sensing.{pvIn}
@@ -67,8 +66,7 @@ read c = usable _ _ _ _ _ (start (c .before .before) .pre .1 .1 .profile .segmen
 cast-raw : tie.Need-cast-raw
 unfolding start
 cast-raw c =
-    let a = start (c .before .before) .args in
-    omega (arith, read c .input, input-high (now (a .words)) (a .number) (a .carried .state .mode) (a .carried .state .profile .segment))
+    omega (arith, read c .input, read c .full)
 
 no-transfer-requires : tie.Need-no-transfer-requires
 no-transfer-requires c κs = search needs

@@ -20,7 +20,7 @@ past-for-requires c κs = search needs
 
 module _ (c : tie.After-past-for) where
   start : tie.Start
-  start = c .before .before .before .before .before .before .before .before .before
+  start = c .before .before .before .before .before .before .before .before .before .before
 
   error : toZ w64 (ofZ w64 (start .args .sensed .error)) ≡ start .args .sensed .error
   unfolding start
@@ -28,15 +28,15 @@ module _ (c : tie.After-past-for) where
 
   past : let a = start .args in
       c .past-for .result
-      ≡ pastOf (not (a .carried .sampled) || a .sensed .entry) (a .carried .past) (a .sensed .pv) (a .sensed .error)
+      ≡ pastOf (a .reading .settings .mode2) (not (a .carried .sampled) || a .sensed .entry) (a .carried .past) (a .sensed .converted) (a .sensed .error)
   unfolding start
   past = c .past-for .ensures ∙ simp error
 
 moved-requires : tie.Need-moved-requires
 unfolding start
 moved-requires c κs =
-    let s = c .before .before .before .before .before .before .before .before .before .before in
-    simp (error (c .before)) (simp (c .before .before .before .before .before .started .ensures, past (c .before)) (s .pre))
+    let s = c .before .before .before .before .before .before .before .before .before .before .before in
+    simp (error (c .before)) (simp (c .before .before .before .before .before .started .ensures, past (c .before)) (s .pre .1))
 
 returns : tie.Need-returns
 unfolding drivenOf start

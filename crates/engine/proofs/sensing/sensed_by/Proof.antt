@@ -8,6 +8,9 @@ use Rattle.engine.proofs.sensing.sensed_by.Tie as tie
 pv-in-requires : tie.Need-pv-in-requires
 pv-in-requires c κs = search needs
 
+output-counts-requires : tie.Need-output-counts-requires
+output-counts-requires c κs = search needs
+
 enters-requires : tie.Need-enters-requires
 enters-requires c κs = search needs
 
@@ -51,7 +54,8 @@ returns c =
       t .before .runs-on .ensures,
       h .changes .ensures,
       n .enters .ensures,
-      n .before .pv-in .ensures,
+      n .before .output-counts .ensures,
+      n .before .before .pv-in .ensures,
     ))
 
 pub sensed-by-spec : {M : Type 1} → statement M
@@ -59,6 +63,7 @@ sensed-by-spec =
     tie.close
     (tie.spec
     pv-in-requires
+    output-counts-requires
     enters-requires
     changes-requires
     runs-on-requires

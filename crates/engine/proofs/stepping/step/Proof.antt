@@ -9,13 +9,13 @@ use Rattle.engine.proofs.stepping.step.Statement.{statement}
 use Rattle.engine.proofs.stepping.step.Tie as tie
 
 sensed-by-requires : tie.Need-sensed-by-requires
-sensed-by-requires c κs = let p = c .before .before .pre in (p .0 .some, p .1 .profile, p .0 .program .duration)
+sensed-by-requires c κs = let p = c .before .before .pre in (p .0 .above, p .0 .some, p .1 .profile, p .0 .program .duration)
 
 held-word-requires : tie.Need-held-word-requires
 held-word-requires c κs = search needs
 
 driven-requires : tie.Need-driven-requires
-driven-requires c κs = simp (c .held-word .ensures, c .before .sensed-by .ensures) (let p = c .before .before .before .before .pre in drivable (p .0) (p .1))
+driven-requires c κs = simp (c .held-word .ensures, c .before .sensed-by .ensures) (let p = c .before .before .before .before .pre in (p .0 .above, drivable (p .0) (p .1)))
 
 words-after-requires : tie.Need-words-after-requires
 unfolding drivenOf
