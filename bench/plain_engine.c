@@ -28,11 +28,11 @@ struct carried {
     int64_t mode, bias, output, last, prior, error, velocity, sampled, segment, hold, complete, fraction, time, mark;
 };
 
-/* what judging has found for the steps: period, gain, reset and rate in hundredths; the table is null where there is no
- * profile (G4) */
+/* what judging has found for the steps: period, gain, reset and rate in hundredths; the full scales of input and output (M3); the
+ * table is null where there is no profile (G4) */
 struct reading {
     int tuning[4];
-    unsigned full;
+    unsigned in_full, out_full;
     enum mode mode;
     const uint16_t *table;
 };
@@ -70,7 +70,20 @@ static uint32_t root(uint32_t v) {
     return v - r * r > r ? r + 1 : r;
 }
 
-static unsigned full_scale(unsigned mode2) { return bit(mode2, 9) ? 65535 : bit(mode2, 1) ? 32767 : 4095; }
+/* M3 */
+static unsigned full_scale(int fifteen, int sixteen) { return sixteen ? 65535 : fifteen ? 32767 : 4095; }
+
+static unsigned input_scale(unsigned mode2) { return full_scale(bit(mode2, 1), bit(mode2, 9)); }
+
+/* M2: bit 10, an output format of its own */
+static int own_format(unsigned mode2) { return bit(mode2, 10); }
+
+/* N8: bit 11 is never allowed, 12 and 13 are beside 10 */
+static int bits_refused(unsigned mode2) { return mode2 & ~0x312u && (!own_format(mode2) || mode2 & ~0x3712u); }
+
+/* M7, with an output format of its own: the nearest of v x G / F, a half up, all of it below 2^32. Only a last PV from another
+ * format can be above F, and it counts as F does. */
+static int64_t converted(int64_t v, uint32_t from, uint32_t to) { return v >= from ? to : ((uint32_t)v * to + from / 2) / from; }
 
 static enum mode mode_of(unsigned mode1, enum mode former) {
     return bit(mode1, 0) ? MANUAL : bit(mode1, 1) ? AUTOMATIC : bit(mode1, 2) ? CASCADE : former;
@@ -100,14 +113,15 @@ static uint8_t table_refusal(const uint16_t *table, unsigned full) {
     return wrong ? 7 : above ? 8 : 0;
 }
 
-/* N8 */
-static int setting_refused(const uint16_t *words, const uint16_t *w, enum mode mode, unsigned full, int period, int reset) {
+/* N8: setpoints are in counts of the input, limits in counts of the output */
+static int setting_refused(const uint16_t *words, const uint16_t *w, const struct reading *r) {
     unsigned m = w[0];
-    if (period < 5 || reset == 0 || w[24] > w[25] || w[25] > full) return 1;
-    if ((bit(m, 5) && bit(m, 3)) || bit(m, 9) || (w[1] & ~0x312u)) return 1;
+    int period = r->tuning[0], reset = r->tuning[2];
+    if (period < 5 || reset == 0 || w[24] > w[25] || w[25] > r->out_full) return 1;
+    if ((bit(m, 5) && bit(m, 3)) || bit(m, 9) || bits_refused(w[1])) return 1;
     if ((bit(m, 12) || bit(m, 13)) && (w[18] < 1 || w[18] > 200)) return 1;
-    if (mode != CASCADE) return w[2] > full;
-    return w[26] > 1023 || words[w[26]] > full;
+    if (r->mode != CASCADE) return w[2] > r->in_full;
+    return w[26] > 1023 || words[w[26]] > r->in_full;
 }
 
 /* N5 of the record, N7, N8, N9: the refusal, or 0 and the reading */
@@ -117,13 +131,14 @@ static inline uint8_t judge(const uint16_t *words, const uint16_t *w, const stru
         if (wrong_digits(w[7 + n])) return 7;
         r->tuning[n] = bcd(w[7 + n]);
     }
-    r->full = full_scale(w[1]);
+    r->in_full = input_scale(w[1]);
+    r->out_full = own_format(w[1]) ? full_scale(bit(w[1], 12), bit(w[1], 13)) : r->in_full;
     r->mode = mode_of(w[0], (enum mode)c->mode);
     r->table = table_of(words, w);
-    uint8_t refusal = r->table ? table_refusal(r->table, r->full) : 0;
+    uint8_t refusal = r->table ? table_refusal(r->table, r->in_full) : 0;
     if (refusal == 7) return 7;
-    if (refusal == 8 || setting_refused(words, w, r->mode, r->full, r->tuning[0], r->tuning[2])) return 8;
-    return raw > r->full ? 9 : 0;
+    if (refusal == 8 || setting_refused(words, w, r)) return 8;
+    return raw > r->in_full ? 9 : 0;
 }
 
 /* A13 */
@@ -290,9 +305,9 @@ static uint8_t sample(uint16_t *words, struct carried *records, uint64_t loop, u
     uint8_t refusal = judge(words, w, c, raw, &r);
     if (refusal) return refusal;
 
-    unsigned measured = (unsigned)raw, full = r.full;
+    unsigned measured = (unsigned)raw;
     enum mode mode = r.mode;
-    int p = (int)(bit(w[0], 6) ? root(measured * full) : measured);
+    int p = (int)(bit(w[0], 6) ? root(measured * r.in_full) : measured);
     if (is_transfer(w, c, mode)) {
         if (transfer_refused(words, w, p)) return 11;
         words[w[26]] = (uint16_t)p; /* so s is p */
@@ -314,26 +329,31 @@ static uint8_t sample(uint16_t *words, struct carried *records, uint64_t loop, u
         if (r.table) s = profile(w, c, r.table, r.tuning[0], s, p);
         else no_profile(w, c);
     }
-    int64_t e = s - p;
-    if (bit(w[0], 7)) e = e * distance(s, p) / (int64_t)full;
-    if (bit(w[0], 8) && distance(s, p) < w[19]) e = 0;
     int fresh = entry || !c->sampled;
-    int64_t last = fresh ? p : c->last, prior = fresh ? p : c->prior, last_error = fresh ? e : c->error;
+    int64_t e = s - p, pv = p, last = fresh ? p : c->last, prior = fresh ? p : c->prior;
+    if (own_format(w[1])) {
+        unsigned from = r.in_full, to = r.out_full;
+        pv = converted(p, from, to), last = converted(last, from, to), prior = converted(prior, from, to);
+        e = converted(s, from, to) - pv;
+    }
+    if (bit(w[0], 7)) e = e * distance(e, 0) / (int64_t)r.out_full;
+    if (bit(w[0], 8) && distance(s, p) < w[19]) e = 0; /* A5: the deadband is in counts of the input */
+    int64_t last_error = fresh ? e : c->error; /* as it was computed, whatever the formats were then */
 
     if (mode != MANUAL && velocity) {
-        struct terms t = terms_of(w, r.tuning, e - last_error, e, p - 2 * last + prior);
+        struct terms t = terms_of(w, r.tuning, e - last_error, e, pv - 2 * last + prior);
         output = clamp(output + t.p + t.i - t.d, low, high);
         out = counts(output);
     } else if (mode != MANUAL) {
-        struct terms t = terms_of(w, r.tuning, e, e, p - last);
+        struct terms t = terms_of(w, r.tuning, e, e, pv - last);
         int64_t m = t.p - t.d + bias + t.i;
         output = clamp(m, low, high);
         if (m == output) bias += t.i;
         else if (!bit(w[0], 10)) bias = output - (t.p - t.d);
         out = counts(output);
-        bias_word = counts(clamp(bias, 0, (int64_t)full * UNIT));
+        bias_word = counts(clamp(bias, 0, (int64_t)r.out_full * UNIT));
     }
-    unsigned word = status(w, c, mode, s, p, out);
+    unsigned word = status(w, c, mode, s, p, out); /* of s, p and the last PV in counts of the input */
     w[0] &= ~7u;
     w[2] = (uint16_t)s;
     w[3] = (uint16_t)p;

@@ -132,20 +132,31 @@ enum kexbardi_mode_1 {
 };
 #define KEXBARDI_M1_REQUESTS 0x0007        /* the three requests */
 
-/* Mode 2, word 1 (M2). Bit 8 is ignored; all others have to be off (refusal 8). */
+/* Mode 2, word 1 (M2). Bit 8 is ignored; all others have to be off, and the last two without OUTPUT_FORMAT too
+ * (refusal 8). */
 enum kexbardi_mode_2 {
     KEXBARDI_M2_FIFTEEN_BITS = 0x0002,
     KEXBARDI_M2_RESET_MINUTES = 0x0010,
-    KEXBARDI_M2_SIXTEEN_BITS = 0x0200      /* prevails over FIFTEEN_BITS; with neither, 12 bits */
+    KEXBARDI_M2_SIXTEEN_BITS = 0x0200,     /* prevails over FIFTEEN_BITS; with neither, 12 bits */
+    KEXBARDI_M2_OUTPUT_FORMAT = 0x0400,    /* the output has a format of its own, by the two below; off: the format above
+                                              is that of both. On, PVs and setpoint are converted to counts of the
+                                              output for error and rate (M7) */
+    KEXBARDI_M2_OUTPUT_FIFTEEN_BITS = 0x1000,
+    KEXBARDI_M2_OUTPUT_SIXTEEN_BITS = 0x2000 /* prevails over OUTPUT_FIFTEEN_BITS; with neither, 12 bits */
 };
 
-/* The full scales of the three formats, and that of a mode 2 word (M3). */
+/* The full scales of the three formats; and of a mode 2 word that of the input, for raw PV, setpoint and ramp ends, and
+ * that of the output, for the output limits (M3). */
 #define KEXBARDI_FULL_12 4095
 #define KEXBARDI_FULL_15 32767
 #define KEXBARDI_FULL_16 65535
 #define KEXBARDI_FULL_SCALE(word) \
     ((word) & KEXBARDI_M2_SIXTEEN_BITS ? KEXBARDI_FULL_16 \
         : (word) & KEXBARDI_M2_FIFTEEN_BITS ? KEXBARDI_FULL_15 : KEXBARDI_FULL_12)
+#define KEXBARDI_OUTPUT_FULL_SCALE(word) \
+    (!((word) & KEXBARDI_M2_OUTPUT_FORMAT) ? KEXBARDI_FULL_SCALE(word) \
+        : (word) & KEXBARDI_M2_OUTPUT_SIXTEEN_BITS ? KEXBARDI_FULL_16 \
+        : (word) & KEXBARDI_M2_OUTPUT_FIFTEEN_BITS ? KEXBARDI_FULL_15 : KEXBARDI_FULL_12)
 
 /* Status, word 6 (section 7 of MANUAL.md). */
 enum kexbardi_status {

@@ -512,6 +512,33 @@ static void formats(void) {
     format("16 bits prevail", KEXBARDI_M2_FIFTEEN_BITS | KEXBARDI_M2_SIXTEEN_BITS, 0x0202, KEXBARDI_FULL_16, 65535);
 }
 
+/* M3, N8: a high limit at the output's full scale is accepted, and one above it refused. A5: the error from PV 0 to setpoint 4,095, the
+ * input's full scale, is the output's. */
+static void output_format(const char *name, unsigned mode_2, unsigned bits_of_mode_2, unsigned highest) {
+    begin_loop_a(name);
+    put(1, mode_2);
+    equals("mode 2", word(1), bits_of_mode_2);
+    put(0, 0x0001);
+    put(2, 4095);
+    put(25, highest);
+    equals("a limit at full scale", sample(1, 0), 0);
+    take_record();
+    equals("the error", fields[5], highest);
+    if (highest == 65535) return;
+    put(25, highest + 1);
+    equals("a limit above it", sample(1, 0), 8);
+}
+
+static void output_formats(void) {
+    const unsigned own = KEXBARDI_M2_OUTPUT_FORMAT, fifteen = KEXBARDI_M2_OUTPUT_FIFTEEN_BITS, sixteen = KEXBARDI_M2_OUTPUT_SIXTEEN_BITS;
+    output_format("KEXBARDI_M2_OUTPUT_FORMAT", own, 0x0400, 4095);
+    output_format("KEXBARDI_M2_OUTPUT_FIFTEEN_BITS", own | fifteen, 0x1400, 32767);
+    output_format("KEXBARDI_M2_OUTPUT_SIXTEEN_BITS", own | sixteen, 0x2400, 65535);
+    output_format("16 bits of the output prevail", own | fifteen | sixteen, 0x3400, 65535);
+    put(1, sixteen);
+    equals("the last two without OUTPUT_FORMAT", sample(1, 0), 8);
+}
+
 /* ---- profiles */
 
 /* Loop A in Manual with setpoint 1,000 and bit 11, its period 1.00 s, and a table at an address, in plain numbers: up to
@@ -798,7 +825,7 @@ static void free_words(void) {
     put(KEXBARDI_FIRST_FREE + 3, 1);
 }
 
-/* M3: the full scale of a mode 2 word; the argument may be an expression, and the macro stand in one. */
+/* M3: the full scales of a mode 2 word; the argument may be an expression, and the macro stand in one. */
 static void full_scales(void) {
     test = "KEXBARDI_FULL_SCALE";
     equals("12 bits", KEXBARDI_FULL_SCALE(0x0110), 4095);
@@ -807,6 +834,18 @@ static void full_scales(void) {
     equals("both bits", KEXBARDI_FULL_SCALE(0x0202), 65535);
     equals("of two bits", KEXBARDI_FULL_SCALE(0x0010 | 0x0100), 4095);
     equals("in a difference", KEXBARDI_FULL_SCALE(0x0200) - 1, 65534);
+    equals("whatever the output has", KEXBARDI_FULL_SCALE(0x2402), 32767);
+
+    test = "KEXBARDI_OUTPUT_FULL_SCALE";
+    equals("of the input, 12 bits", KEXBARDI_OUTPUT_FULL_SCALE(0x0110), 4095);
+    equals("of the input, 15 bits", KEXBARDI_OUTPUT_FULL_SCALE(0x0012), 32767);
+    equals("of the input, 16 bits", KEXBARDI_OUTPUT_FULL_SCALE(0x0202), 65535);
+    equals("its own, 12 bits", KEXBARDI_OUTPUT_FULL_SCALE(0x0600), 4095);
+    equals("its own, 15 bits", KEXBARDI_OUTPUT_FULL_SCALE(0x1600), 32767);
+    equals("its own, 16 bits", KEXBARDI_OUTPUT_FULL_SCALE(0x2402), 65535);
+    equals("its own, both bits", KEXBARDI_OUTPUT_FULL_SCALE(0x3400), 65535);
+    equals("of two bits", KEXBARDI_OUTPUT_FULL_SCALE(0x0400 | 0x1000), 32767);
+    equals("in a difference", KEXBARDI_OUTPUT_FULL_SCALE(0x1400) - 1, 32766);
 }
 
 /* A2: the requests are what a sample clears of word 0. B2 to B5: the seven alarms. */
@@ -1193,6 +1232,7 @@ int main(void) {
     velocity();
     reset_minutes();
     formats();
+    output_formats();
     profile_words();
     table_addresses();
     table_words();

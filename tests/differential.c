@@ -41,7 +41,10 @@ enum feature {
     TRANSFERS, TO_MANUAL, TO_AUTOMATIC, TO_CASCADE, TO_VELOCITY, TO_FREEZE, TO_MARKED, TO_SPOILT, TO_SPOILT_MARK, AT_LOW, AT_HIGH,
     OF_VELOCITY, OF_CHANGED_FORM, OF_ROOT, OF_RUNNING, OF_MARKED, NONE_BY_II, NONE_FROM_MANUAL, NONE_IN_CASCADE,
     MARK_ALONE, MARK_KEEPS_SETPOINT, MARK_RUNNING, MARK_IN_CASCADE, MARK_IN_VELOCITY, MARK_AND_FREEZE, MARK_AND_LIMIT, MARK_FROM_MANUAL,
-    MARK_AND_FORM, MARK_IN_MANUAL, FEATURES
+    MARK_AND_FORM, MARK_IN_MANUAL,
+    LAST_CAPPED, PRIOR_CAPPED, LAST_KEPT, ERROR_KEPT, CONVERTED_DIFFERS, CONVERTED_AGREE, INSIDE_BY_INPUT, OUTSIDE_BY_INPUT,
+    AT_DEADBAND, SQUARED_BY_OUTPUT, BIAS_BY_OUTPUT, HIGH_BETWEEN, LOW_BETWEEN, PV_ABOVE_OUTPUT, SIXTEEN_OVER_FIFTEEN,
+    NEW_INPUT, NEW_OUTPUT, OWN_ON, OWN_OFF, NEW_IN_VELOCITY, NEW_AT_ENTRY, FOLLOWS_WIDER, FOLLOWS_NARROWER, TO_OTHER_SCALE, FEATURES
 };
 static const char *const feature_names[FEATURES] = {"Manual", "Automatic", "Cascade", "position", "velocity", "12 bits", "15 bits",
     "16 bits", "freeze at a limit", "root down", "root up", "root at r x r + r", "squared", "inside the deadband", "reverse",
@@ -60,15 +63,32 @@ static const char *const feature_names[FEATURES] = {"Manual", "Automatic", "Casc
     "transfer of a marked loop", "Automatic to Cascade by Bumpless II", "Manual to Cascade", "Cascade asked for in Cascade",
     "entry by the mark alone", "the mark forces no setpoint", "the mark while a profile runs", "the mark in Cascade",
     "the mark in velocity form", "the mark with freeze", "the mark and an output outside its limits", "the mark and from Manual",
-    "the mark and another form", "the mark kept in Manual"};
+    "the mark and another form", "the mark kept in Manual",
+    "last PV capped", "PV before the last capped", "last PV above full scale and no output format",
+    "last error above the output's scale", "error of converted numbers", "at a limit and only converted numbers agree",
+    "inside the deadband by input counts alone", "outside the deadband by input counts alone", "at the deadband with an output format",
+    "squared by the output's scale", "bias word by the output's scale", "high limit above the input's scale",
+    "low limit above the input's scale",
+    "PV above the output's scale", "output bits 12 and 13",
+    "another input format in a run", "another output format in a run", "an output format put on in a run",
+    "an output format taken off in a run", "another format in velocity form", "another format at an entry",
+    "Cascade from a wider output", "Cascade from a narrower output", "transfer to another scale"};
 static unsigned long features[FEATURES], segments[KEXBARDI_SEGMENTS + 1]; /* samples that moved in a segment */
+
+#define FORMATS 3 /* M3 */
+static const unsigned full_scales[FORMATS] = {KEXBARDI_FULL_12, KEXBARDI_FULL_15, KEXBARDI_FULL_16}, widths[FORMATS] = {12, 15, 16};
+static unsigned long pairs[FORMATS][FORMATS]; /* accepted outside Manual with an output format, by input and output */
+
+#define NO_FORMAT 0x8000 /* no accepted sample can have it */
+static unsigned last_mode_2s[KEXBARDI_LOOPS]; /* of each loop's last accepted sample; NO_FORMAT after a file or a reset */
 
 /* what a table is refused with where nothing else is wrong, what forecasts answer, and why transfers are refused, with the root off
  * where p counts */
 enum reached {
     TABLE_DIGIT, TABLE_END, SOME, NONE, FAR, WHILE_HELD, WITH_COMMAND, IN_CASCADE, ABOVE_FULL,
     OWN_OUTPUT, BESIDE_OUTPUT, UPPER_OUTPUT, NO_OUTPUT, LOW, JUST_LOW, HIGH, JUST_HIGH, BY_ROOT, BEHIND_8, BEHIND_9, MARK_STAYS,
-    FORECAST_POINTER, FORECAST_LIMIT, FORECAST_TRANSFER, BY_FILE, REACHED
+    FORECAST_POINTER, FORECAST_LIMIT, FORECAST_TRANSFER, BY_FILE,
+    BY_BIT_11, BY_BITS_12_13, LIMIT_BY_OUTPUT, SETPOINT_BY_INPUT, FOLLOWED_BY_INPUT, END_BY_INPUT, RAW_BY_INPUT, REACHED
 };
 static const char *const reached_names[REACHED] = {"refused with 7 for the table alone", "refused with 8 for the table alone",
     "forecast above 0", "forecast 0", "forecast above a million", "forecast in a hold", "forecast with a command waiting",
@@ -78,7 +98,13 @@ static const char *const reached_names[REACHED] = {"refused with 7 for the table
     "refused with 11 for the high limit", "refused with 11 for one count above", "refused with 11 with the root on",
     "refused with 8 before 11", "refused with 9 before 11", "mark kept by a refused sample",
     "forecast refused with 11 for the pointer", "forecast refused with 11 for the low limit", "forecast with a transfer waiting",
-    "mark set by a file"};
+    "mark set by a file",
+    "refused with 8 for bit 11 of mode 2 alone", "refused with 8 for bits 12 and 13 without bit 10",
+    "refused with 8 for a limit above the output's scale and not the input's",
+    "refused with 8 for a setpoint above the input's scale and not the output's",
+    "refused with 8 for a word that is followed above the input's scale and not the output's",
+    "refused with 8 for a ramp's end above the input's scale and not the output's",
+    "refused with 9 above the input's scale and not the output's"};
 static unsigned long reached[REACHED], forecast_refusals[HIGHEST + 1];
 
 /* 0 to below - 1 */
@@ -170,7 +196,40 @@ static unsigned mode_1(void) {
     return word & 32 || any(3) ? word : word | 8;
 }
 
-static unsigned full_scale(unsigned mode_2) { return mode_2 & 512 ? 65535 : mode_2 & 2 ? 32767 : 4095; }
+/* 0, 1 and 2 for 12, 15 and 16 bits */
+static unsigned input_format(unsigned mode_2) {
+    return mode_2 & KEXBARDI_M2_SIXTEEN_BITS ? 2 : mode_2 & KEXBARDI_M2_FIFTEEN_BITS ? 1 : 0;
+}
+
+static unsigned output_format(unsigned mode_2) {
+    if (!(mode_2 & KEXBARDI_M2_OUTPUT_FORMAT)) return input_format(mode_2);
+    return mode_2 & KEXBARDI_M2_OUTPUT_SIXTEEN_BITS ? 2 : mode_2 & KEXBARDI_M2_OUTPUT_FIFTEEN_BITS ? 1 : 0;
+}
+
+/* of the input */
+static unsigned full_scale(unsigned mode_2) { return full_scales[input_format(mode_2)]; }
+
+static unsigned output_scale(unsigned mode_2) { return full_scales[output_format(mode_2)]; }
+
+/* any format of the input; the 16-bit one with the 15-bit one's bit too, now and then */
+static unsigned any_input(void) {
+    static const unsigned bits[] = {0, 0, KEXBARDI_M2_FIFTEEN_BITS, KEXBARDI_M2_FIFTEEN_BITS, KEXBARDI_M2_SIXTEEN_BITS,
+        KEXBARDI_M2_SIXTEEN_BITS | KEXBARDI_M2_FIFTEEN_BITS};
+    return bits[any(6)];
+}
+
+/* an output format of its own, any of the three */
+static unsigned any_output(void) {
+    static const unsigned bits[] = {0, 0, KEXBARDI_M2_OUTPUT_FIFTEEN_BITS, KEXBARDI_M2_OUTPUT_FIFTEEN_BITS,
+        KEXBARDI_M2_OUTPUT_SIXTEEN_BITS, KEXBARDI_M2_OUTPUT_SIXTEEN_BITS | KEXBARDI_M2_OUTPUT_FIFTEEN_BITS};
+    return KEXBARDI_M2_OUTPUT_FORMAT | bits[any(6)];
+}
+
+/* mode 2 that is accepted: half of the time with an output format; minutes or the ignored bit 8 now and then */
+static unsigned mode_2(void) {
+    static const unsigned others[] = {0, 0, KEXBARDI_M2_RESET_MINUTES, 256};
+    return any_input() | others[any(4)] | (any(2) ? any_output() : 0);
+}
 
 typedef void writer(unsigned address, unsigned value);
 
@@ -240,13 +299,19 @@ static void settle_profile(writer *write, unsigned loop, unsigned full, unsigned
     if (good_address(table)) fill_table(table_writer(write), table, full, period, setpoint);
 }
 
+/* output limits within a scale; the low one mostly in its lower half */
+static void settle_limits(writer *write, unsigned base, unsigned full) {
+    unsigned low = any(2) * any(once_in(8) ? full + 1 : full / 2 + 1);
+    write(base + KEXBARDI_OUTPUT_LOW, low);
+    write(base + KEXBARDI_OUTPUT_HIGH, low + any(full - low + 1));
+}
+
 /* a loop set up so that its samples are accepted */
 static unsigned settle(writer *write, unsigned loop) {
-    static const unsigned mode_2s[] = {0, 2, 512, 530, 16, 256, 18, 514};
-    unsigned base = KEXBARDI_ADDRESS(loop, 0), mode_2 = mode_2s[any(8)], full = full_scale(mode_2), low = any(2) * any(full / 2 + 1);
+    unsigned base = KEXBARDI_ADDRESS(loop, 0), formats = mode_2(), full = full_scale(formats), out_full = output_scale(formats);
     unsigned setpoint = any(full + 1), period = once_in(3) ? 100 + 100 * any(99) : 5 + any(any(2) ? 9995 : 100);
     write(base + KEXBARDI_MODE_1, mode_1());
-    write(base + KEXBARDI_MODE_2, mode_2);
+    write(base + KEXBARDI_MODE_2, formats);
     write(base + KEXBARDI_SETPOINT, setpoint);
     write(base + KEXBARDI_OUTPUT, any(65536));
     write(base + KEXBARDI_PERIOD, bcd(period));
@@ -259,8 +324,7 @@ static unsigned settle(writer *write, unsigned loop) {
     write(base + KEXBARDI_CHANGE, any(full / 8));
     write(base + KEXBARDI_HYSTERESIS, 1 + any(200));
     write(base + KEXBARDI_DEADBAND, any(full / 8));
-    write(base + KEXBARDI_OUTPUT_LOW, low);
-    write(base + KEXBARDI_OUTPUT_HIGH, low + any(full - low + 1));
+    settle_limits(write, base, out_full);
     write(base + KEXBARDI_POINTER, pointer(loop));
     settle_profile(write, loop, full, period, setpoint);
     return full;
@@ -269,17 +333,27 @@ static unsigned settle(writer *write, unsigned loop) {
 /* a setting at the edge of what is allowed, on either side */
 static void change_to_edge(writer *write, unsigned base, unsigned full) {
     static const unsigned refused_bits[] = {512, 512, 40};
+    unsigned formats = ours.words[base + KEXBARDI_MODE_2];
     switch (any(9)) {
     case 0: write(base + KEXBARDI_PERIOD, 3 + any(4)); break;
     case 1: write(base + KEXBARDI_RESET, any(2)); break;
     case 2: write(base + KEXBARDI_HYSTERESIS, any(2) ? any(2) : 199 + any(4)); break;
     case 3: write(base + KEXBARDI_POINTER, 1022 + any(4)); break;
     case 4: write(base + KEXBARDI_SETPOINT, full + any(2)); break;
-    case 5: write(base + KEXBARDI_OUTPUT_HIGH, full + any(2)); break;
+    case 5: write(base + KEXBARDI_OUTPUT_HIGH, output_scale(formats) + any(2)); break;
     case 6: write(base + KEXBARDI_MODE_1, mode_1() | refused_bits[any(3)]); break;
-    case 7: write(base + KEXBARDI_MODE_2, ours.words[base + KEXBARDI_MODE_2] ^ 1u << any(16)); break;
+    case 7: write(base + KEXBARDI_MODE_2, formats ^ 1u << any(16)); break;
     default: write(base + KEXBARDI_OUTPUT_LOW, ours.words[base + KEXBARDI_OUTPUT_HIGH] + any(2)); break;
     }
+}
+
+/* One of bits 10 to 13 of mode 2 put on or off; or a word that is within the scale that is not its own: a setpoint up to the
+ * output's, or a limit up to the input's. */
+static void change_scale(writer *write, unsigned base, unsigned full) {
+    unsigned formats = ours.words[base + KEXBARDI_MODE_2], out_full = output_scale(formats);
+    if (once_in(3)) write(base + KEXBARDI_MODE_2, formats ^ 1u << (10 + any(4)));
+    else if (full < out_full) write(base + KEXBARDI_SETPOINT, full + (once_in(4) ? any(2) : any(out_full - full + 1)));
+    else write(base + KEXBARDI_OUTPUT_HIGH, out_full + any(full - out_full + 1));
 }
 
 /* one command or several, and bits that are never read; more often one that ends a hold or the last segment */
@@ -320,22 +394,50 @@ static void change_profile(writer *write, unsigned loop) {
     }
 }
 
+/* Another format of input or output, or one of the output put on or taken off. Setpoint, limits and table are brought to the new
+ * scales, mostly; the record is not, so that its PVs may be above them. */
+static void change_format(writer *write, unsigned loop) {
+    const unsigned inputs = KEXBARDI_M2_FIFTEEN_BITS | KEXBARDI_M2_SIXTEEN_BITS;
+    const unsigned outputs = KEXBARDI_M2_OUTPUT_FORMAT | KEXBARDI_M2_OUTPUT_FIFTEEN_BITS | KEXBARDI_M2_OUTPUT_SIXTEEN_BITS;
+    unsigned base = KEXBARDI_ADDRESS(loop, 0), formats = ours.words[base + KEXBARDI_MODE_2];
+    unsigned table = ours.words[base + KEXBARDI_PROFILE_TABLE], setpoint = ours.words[base + KEXBARDI_SETPOINT];
+    if (any(3)) formats = (formats & ~inputs) | any_input();
+    if (any(3)) formats = (formats & ~outputs) | (any(2) ? any_output() : 0);
+    write(base + KEXBARDI_MODE_2, formats);
+    if (once_in(20)) return;
+    unsigned full = full_scale(formats), out_full = output_scale(formats);
+    if (setpoint > full) write(base + KEXBARDI_SETPOINT, setpoint = any(full + 1));
+    if (ours.words[base + KEXBARDI_OUTPUT_HIGH] > out_full || once_in(4)) settle_limits(write, base, out_full);
+    if (ours.words[base + KEXBARDI_MODE_1] & KEXBARDI_M1_PROFILE && good_address(table))
+        fill_table(table_writer(write), table, full, 5 + any(9995), setpoint);
+}
+
+/* a deadband next to how far setpoint and PV are apart now, in counts of the input or of the output; or any */
+static unsigned deadband(const uint16_t *w, unsigned full) {
+    unsigned apart = (unsigned)abs(w[KEXBARDI_SETPOINT] - w[KEXBARDI_PV]), near = apart;
+    if (any(2)) return any(full + 1);
+    if (any(2)) near = (unsigned)((uint64_t)apart * output_scale(w[KEXBARDI_MODE_2]) / full);
+    return (near > 0 ? near - 1 : 0) + any(3);
+}
+
 /* a setting changed, now and then to what is refused */
 static void change(writer *write, unsigned loop) {
     unsigned base = KEXBARDI_ADDRESS(loop, 0), full = full_scale(ours.words[base + KEXBARDI_MODE_2]);
-    switch (any(23)) {
+    switch (any(29)) {
     case 0: write(base + any(32), any(65536)); break;
     case 1: write(any(1100), any(65536)); break;
     case 2: case 3: case 4: write(base + KEXBARDI_SETPOINT, any(full + 1)); break;
     case 5: write(base + KEXBARDI_OUTPUT, any(65536)); break;
     case 6: case 7: write(base + KEXBARDI_PERIOD + any(4), bcd(5 + any(9995))); break;
     case 8: case 9: write(600, any(4096)); break;
-    case 10: write(base + KEXBARDI_DEADBAND, any(full + 1)); break;
+    case 10: write(base + KEXBARDI_DEADBAND, deadband(ours.words + base, full)); break;
     case 11: write(base + KEXBARDI_LOW_LOW + any(7), any(full + 1)); break;
     case 12: change_to_edge(write, base, full); break;
     case 13: case 14: write(base + KEXBARDI_MODE_1, (ours.words[base + KEXBARDI_MODE_1] & ~7u) | 1u << any(3)); break;
-    case 15: case 16: case 17: case 18: change_profile(write, loop); break;
-    case 19: write(base + KEXBARDI_POINTER, pointer(loop)); break;
+    case 15: case 16: case 17: case 18: case 19: change_profile(write, loop); break;
+    case 20: write(base + KEXBARDI_POINTER, pointer(loop)); break;
+    case 21: case 22: case 23: change_format(write, loop); break;
+    case 24: case 25: change_scale(write, base, full); break;
     default: write(base + KEXBARDI_MODE_1, mode_1()); break;
     }
 }
@@ -379,7 +481,7 @@ static void count_features(unsigned mode_1, const uint16_t *w, const int64_t *re
     features[record[KEXBARDI_FIELD_MODE]]++;
     features[POSITION] += working && !velocity;
     features[VELOCITY] += working && velocity;
-    features[w[1] & 512 ? BITS_16 : w[1] & 2 ? BITS_15 : BITS_12]++;
+    features[BITS_12 + input_format(w[1])]++;
     features[FREEZE] += working && !velocity && mode_1 & 1024 && at_limit;
     if (mode_1 & 64) count_root(raw, full_scale(w[1]), pv);
     features[SQUARED] += error && mode_1 & 128;
@@ -554,6 +656,82 @@ static void count_cascade_features(unsigned loop, const struct former *former, c
     if (former->record[KEXBARDI_FIELD_MARK] == 1) count_mark(former, w, mark_of(loop));
 }
 
+/* M7, by exact arithmetic and without the cap: the nearest of v x to / from, a half up */
+static int64_t uncapped(int64_t v, int64_t from, int64_t to) { return (2 * v * to + from) / (2 * from); }
+
+static int64_t converted(int64_t v, int64_t from, int64_t to) { return uncapped(v, from, to) < to ? uncapped(v, from, to) : to; }
+
+static int is_entry(const struct former *former) {
+    return former->record[KEXBARDI_FIELD_MODE] == KEXBARDI_MANUAL || other_form(former) || former->record[KEXBARDI_FIELD_MARK] == 1;
+}
+
+/* what the terms compare with (A6), from another format: last PVs above full scale, an error above the output's */
+static void count_past(const struct former *former, const uint16_t *w, int64_t full, int64_t out_full) {
+    int64_t last = former->record[KEXBARDI_FIELD_LAST_PV], prior = former->record[KEXBARDI_FIELD_PRIOR_PV];
+    if (is_entry(former) || !former->record[KEXBARDI_FIELD_SAMPLED]) return;
+    features[ERROR_KEPT] += w[0] & KEXBARDI_M1_VELOCITY && w[KEXBARDI_GAIN] && llabs(former->record[KEXBARDI_FIELD_ERROR]) > out_full;
+    if (w[KEXBARDI_RATE] == 0) return;
+    if (w[KEXBARDI_MODE_2] & KEXBARDI_M2_OUTPUT_FORMAT) {
+        features[LAST_CAPPED] += uncapped(last, full, out_full) > out_full;
+        features[PRIOR_CAPPED] += w[0] & KEXBARDI_M1_VELOCITY && uncapped(prior, full, out_full) > out_full;
+    } else {
+        features[LAST_KEPT] += last > full;
+    }
+}
+
+/* outside Manual, with an output format: where counts of the input and of the output lead to different results */
+static void count_converted(const uint16_t *w, const int64_t *record, int64_t full, int64_t out_full) {
+    int64_t s = w[KEXBARDI_SETPOINT], p = w[KEXBARDI_PV], apart = llabs(s - p), most = full < out_full ? full : out_full;
+    int64_t error = llabs(converted(s, full, out_full) - converted(p, full, out_full)), square = error * error;
+    int64_t counted = w[0] & KEXBARDI_M1_SQUARED ? square / out_full : error, band = w[KEXBARDI_DEADBAND];
+    int has_band = w[0] & KEXBARDI_M1_DEADBAND && counted > 0;
+    features[CONVERTED_DIFFERS] += error != apart;
+    features[CONVERTED_AGREE] += error == 0 && w[KEXBARDI_STATUS] & KEXBARDI_S_AT_LIMIT;
+    features[INSIDE_BY_INPUT] += has_band && apart < band && error >= band;
+    features[OUTSIDE_BY_INPUT] += has_band && apart >= band && error < band;
+    features[AT_DEADBAND] += has_band && apart == band;
+    features[SQUARED_BY_OUTPUT] += w[0] & KEXBARDI_M1_SQUARED && record[KEXBARDI_FIELD_ERROR] != 0 && square / full != counted;
+    features[BIAS_BY_OUTPUT] += full != out_full && !(w[0] & KEXBARDI_M1_VELOCITY)
+        && record[KEXBARDI_FIELD_BIAS] > most * KEXBARDI_UNITS;
+    features[HIGH_BETWEEN] += w[KEXBARDI_OUTPUT_HIGH] > full;
+    features[LOW_BETWEEN] += w[KEXBARDI_OUTPUT_LOW] > full;
+    features[PV_ABOVE_OUTPUT] += p > out_full;
+}
+
+/* outside Manual: whether a format is another than at the loop's last accepted sample */
+static void count_new_format(const struct former *former, const uint16_t *w, unsigned last_mode_2) {
+    unsigned formats = w[KEXBARDI_MODE_2], own = formats & KEXBARDI_M2_OUTPUT_FORMAT, had = last_mode_2 & KEXBARDI_M2_OUTPUT_FORMAT;
+    int input = input_format(formats) != input_format(last_mode_2), output = output_format(formats) != output_format(last_mode_2);
+    if (last_mode_2 == NO_FORMAT) return;
+    features[NEW_AT_ENTRY] += (input || output) && is_entry(former);
+    if (is_entry(former)) return;
+    features[NEW_INPUT] += input && own && had;
+    features[NEW_OUTPUT] += output && own && had;
+    features[OWN_ON] += own && !had;
+    features[OWN_OFF] += !own && had;
+    features[NEW_IN_VELOCITY] += (input || output) && own && w[0] & KEXBARDI_M1_VELOCITY;
+}
+
+/* in Cascade behind another loop's output: by the scale of that, and that of the own input */
+static void count_followed(const struct former *former, unsigned formats) {
+    unsigned major = output_scale(ours.words[KEXBARDI_ADDRESS(former->major, KEXBARDI_MODE_2)]), full = full_scale(formats);
+    features[FOLLOWS_WIDER] += major > full;
+    features[FOLLOWS_NARROWER] += major < full;
+    features[TO_OTHER_SCALE] += major != full && is_transfer(former->words, former->record);
+}
+
+static void count_format_features(const struct former *former, const uint16_t *w, const int64_t *record, unsigned last_mode_2) {
+    unsigned formats = w[KEXBARDI_MODE_2], input = input_format(formats), output = output_format(formats);
+    if (w[KEXBARDI_STATUS] & KEXBARDI_S_MANUAL) return;
+    count_past(former, w, full_scales[input], full_scales[output]);
+    count_new_format(former, w, last_mode_2);
+    if (former->major && w[KEXBARDI_STATUS] & KEXBARDI_S_CASCADE) count_followed(former, formats);
+    if (!(formats & KEXBARDI_M2_OUTPUT_FORMAT)) return;
+    pairs[input][output]++;
+    count_converted(w, record, full_scales[input], full_scales[output]);
+    features[SIXTEEN_OVER_FIFTEEN] += formats & KEXBARDI_M2_OUTPUT_SIXTEEN_BITS && formats & KEXBARDI_M2_OUTPUT_FIFTEEN_BITS;
+}
+
 /* why the pointer of a transfer that was refused with 11 is wrong */
 static enum reached wrong_pointer(unsigned loop, unsigned pointer) {
     unsigned at = pointer % KEXBARDI_LOOP_WORDS;
@@ -579,16 +757,50 @@ static void count_transfer_refusal(uint8_t answer, unsigned loop, const struct f
     }
 }
 
-/* A sample that was refused with 7 or 8 while the profile has a table: whether without the profile it would not have been. */
-static void count_refusal(uint8_t answer, unsigned loop, uint64_t raw) {
+/* Whether a sample that was refused would be accepted with another value in one word. */
+static int accepted_with(unsigned address, unsigned value, unsigned loop, uint64_t raw) {
     static struct desk without;
-    unsigned mode_1 = KEXBARDI_ADDRESS(loop, KEXBARDI_MODE_1), table = ours.words[KEXBARDI_ADDRESS(loop, KEXBARDI_PROFILE_TABLE)];
-    if (!(ours.words[mode_1] & KEXBARDI_M1_PROFILE) || !good_address(table)) return;
     memcpy(without.words, ours.words, sizeof without.words);
     memcpy(without.records, ours.records, sizeof without.records);
-    without.words[mode_1] &= ~(unsigned)KEXBARDI_M1_PROFILE;
-    if (plain_sample(without.words, KEXBARDI_WORDS, without.records, KEXBARDI_NUMBERS, loop, raw, without.line) == 0)
-        reached[answer == 7 ? TABLE_DIGIT : TABLE_END]++;
+    without.words[address] = (uint16_t)value;
+    return plain_sample(without.words, KEXBARDI_WORDS, without.records, KEXBARDI_NUMBERS, loop, raw, without.line) == 0;
+}
+
+/* of a table's ramps */
+static unsigned highest_end(unsigned table) {
+    unsigned highest = 0;
+    for (unsigned n = 1; n <= KEXBARDI_SEGMENTS; n += 2) {
+        unsigned end = ours.words[table + KEXBARDI_SEGMENT(n) + KEXBARDI_END];
+        if (end > highest) highest = end;
+    }
+    return highest;
+}
+
+/* A sample that was refused with 7 or 8 while the profile has a table: whether without the profile it would not have been. */
+static void count_refusal(uint8_t answer, unsigned loop, uint64_t raw) {
+    unsigned mode_1 = KEXBARDI_ADDRESS(loop, KEXBARDI_MODE_1), table = ours.words[KEXBARDI_ADDRESS(loop, KEXBARDI_PROFILE_TABLE)];
+    if (!(ours.words[mode_1] & KEXBARDI_M1_PROFILE) || !good_address(table)) return;
+    if (!accepted_with(mode_1, ours.words[mode_1] & ~(unsigned)KEXBARDI_M1_PROFILE, loop, raw)) return;
+    reached[answer == 7 ? TABLE_DIGIT : TABLE_END]++;
+    reached[END_BY_INPUT] += answer == 8 && highest_end(table) <= output_scale(ours.words[KEXBARDI_ADDRESS(loop, KEXBARDI_MODE_2)]);
+}
+
+/* A sample that was refused with 8: whether it was for the bits of mode 2 alone, or for one word that is within one scale and above
+ * the other. */
+static void count_format_refusal(unsigned loop, uint64_t raw) {
+    const unsigned outputs = KEXBARDI_M2_OUTPUT_FIFTEEN_BITS | KEXBARDI_M2_OUTPUT_SIXTEEN_BITS, bipolar = 1u << 11;
+    unsigned base = KEXBARDI_ADDRESS(loop, 0), mode_2 = base + KEXBARDI_MODE_2, formats = ours.words[mode_2];
+    unsigned full = full_scale(formats), out_full = output_scale(formats), high = ours.words[base + KEXBARDI_OUTPUT_HIGH];
+    unsigned setpoint = ours.words[base + KEXBARDI_SETPOINT], followed = ours.words[base + KEXBARDI_POINTER];
+    if (formats & bipolar && accepted_with(mode_2, formats & ~bipolar, loop, raw)) reached[BY_BIT_11]++;
+    if (!(formats & KEXBARDI_M2_OUTPUT_FORMAT) && formats & outputs && accepted_with(mode_2, formats & ~outputs, loop, raw))
+        reached[BY_BITS_12_13]++;
+    if (high > out_full && high <= full && accepted_with(base + KEXBARDI_OUTPUT_HIGH, out_full, loop, raw)) reached[LIMIT_BY_OUTPUT]++;
+    if (setpoint > full && setpoint <= out_full && accepted_with(base + KEXBARDI_SETPOINT, full, loop, raw))
+        reached[SETPOINT_BY_INPUT]++;
+    if (followed < KEXBARDI_WORDS && ours.words[followed] > full && ours.words[followed] <= out_full
+        && accepted_with(followed, full, loop, raw))
+        reached[FOLLOWED_BY_INPUT]++;
 }
 
 /* Raw PVs whose root lies next to r + 1/2 (A1): two whose product with full scale is r x r + r, two with the least above one. */
@@ -607,8 +819,15 @@ static unsigned raw_for_transfer(const uint16_t *w, const uint16_t *major, int f
     return w[0] & KEXBARDI_M1_ROOT ? (unsigned)p * (unsigned)p / (unsigned)full : (unsigned)p;
 }
 
+/* A raw PV as far from the setpoint as the deadband, or a count nearer or farther, in counts of the input or of the output. */
+static int raw_at_deadband(const uint16_t *w, int full) {
+    int apart = w[KEXBARDI_DEADBAND] + (int)any(3) - 1;
+    if (once_in(4)) apart = (int)((int64_t)apart * full / (int64_t)output_scale(w[KEXBARDI_MODE_2]));
+    return w[KEXBARDI_SETPOINT] < apart || any(2) ? w[KEXBARDI_SETPOINT] + apart : w[KEXBARDI_SETPOINT] - apart;
+}
+
 /* The next raw PV: mostly on its way to the setpoint, else any; with the root on now and then one whose root lies next to
- * r + 1/2; rarely above full scale. Where a transfer waits, mostly one for it. */
+ * r + 1/2; with the deadband on one that lies at it; rarely above full scale. Where a transfer waits, mostly one for it. */
 static unsigned raw_pv(const uint16_t *w, const struct former *former) {
     int full = (int)full_scale(w[1]), raw = w[3] + (w[2] - w[3]) / 4 + (int)any(41) - 20;
     if (former->major && is_transfer(w, former->record) && any(8))
@@ -617,6 +836,7 @@ static unsigned raw_pv(const uint16_t *w, const struct former *former) {
     if (w[0] & KEXBARDI_M1_ROOT && once_in(10)) return raw_near_half((unsigned)full);
     if (once_in(6)) return any((unsigned)full + 1);
     if (once_in(6)) raw = w[2] + (int)any(61) - 30;
+    if (w[0] & KEXBARDI_M1_DEADBAND && once_in(6)) raw = raw_at_deadband(w, full);
     return (unsigned)(raw < 0 ? 0 : raw > full ? full : raw);
 }
 
@@ -638,8 +858,12 @@ static uint8_t sample(unsigned number) {
             ours.line[KEXBARDI_LINE_PV], raw);
         count_profile_features(&former, w);
         count_cascade_features(known, &former, w);
+        count_format_features(&former, w, ours.records + KEXBARDI_FIELDS * (loop - 1), last_mode_2s[known - 1]);
+        last_mode_2s[known - 1] = w[KEXBARDI_MODE_2];
     }
     if (a == 7 || a == 8) count_refusal(a, known, raw);
+    if (a == 8) count_format_refusal(known, raw);
+    reached[RAW_BY_INPUT] += a == 9 && raw <= output_scale(w[KEXBARDI_MODE_2]);
     if (a >= 8 && is_transfer(former.words, former.record)) count_transfer_refusal(a, known, &former, raw);
     if (a >= 7) reached[MARK_STAYS] += mark_of(known) == 1;
     return a;
@@ -711,6 +935,10 @@ static int is_marked(const int64_t *before) {
     return 0;
 }
 
+static void forget_formats(void) {
+    for (unsigned n = 0; n < KEXBARDI_LOOPS; n++) last_mode_2s[n] = NO_FORMAT;
+}
+
 static void run(unsigned loop) {
     int64_t before[KEXBARDI_NUMBERS];
     size_t words = length_of(KEXBARDI_WORDS), records = length_of(KEXBARDI_NUMBERS), room = once_in(4) ? any(20) : ANSWERS;
@@ -724,6 +952,7 @@ static void run(unsigned loop) {
     for (size_t n = 0; a == 0 && n < room && n < ours.count; n++)
         if (ours.answers[n] > 0 && ours.answers[n] <= HIGHEST) refusals[ours.answers[n]]++;
     reached[BY_FILE] += is_marked(before);
+    forget_formats();
 }
 
 static void print(void) {
@@ -760,6 +989,7 @@ static void reset(void) {
     size_t words = length_of(KEXBARDI_WORDS), records = length_of(KEXBARDI_NUMBERS);
     uint8_t a = kexbardi_reset(ours.words, words, ours.records, records);
     compare("reset", a, plain_reset(plain.words, words, plain.records, records));
+    forget_formats();
 }
 
 /* Once in a while from a setpoint that only Cascade allows. */
@@ -799,7 +1029,7 @@ static void mend_transfer(unsigned loop) {
     else if (major == 0) write_word(base + KEXBARDI_POINTER, other_output(loop));
     else {
         write_word(KEXBARDI_ADDRESS(major, KEXBARDI_OUTPUT_LOW), any(100));
-        write_word(KEXBARDI_ADDRESS(major, KEXBARDI_OUTPUT_HIGH), full_scale(ours.words[KEXBARDI_ADDRESS(major, KEXBARDI_MODE_2)]));
+        write_word(KEXBARDI_ADDRESS(major, KEXBARDI_OUTPUT_HIGH), output_scale(ours.words[KEXBARDI_ADDRESS(major, KEXBARDI_MODE_2)]));
     }
 }
 
@@ -842,14 +1072,15 @@ static void try_transfer(unsigned loop) {
     mend(loop, sample(loop));
 }
 
-/* Three loops in one go, a chain or two minor loops of one major. Most have 16 bits, so that they can follow any output; in the end
- * they are set up again. */
+/* Three loops in one go, a chain or two minor loops of one major. Most have an input of 16 bits, so that they can follow any output;
+ * in the end they are set up again. */
 static void run_cascade(unsigned first) {
     unsigned loops[3], apart = 1 + any(7), chain = any(2);
     for (unsigned n = 0; n < 3; n++) {
         loops[n] = 1 + (first - 1 + n * apart) % KEXBARDI_LOOPS;
         settle(write_word, loops[n]);
-        if (any(4)) write_word(KEXBARDI_ADDRESS(loops[n], KEXBARDI_MODE_2), KEXBARDI_M2_SIXTEEN_BITS);
+        unsigned mode_2 = KEXBARDI_ADDRESS(loops[n], KEXBARDI_MODE_2);
+        if (any(4)) write_word(mode_2, ours.words[mode_2] | KEXBARDI_M2_SIXTEEN_BITS);
     }
     write_word(KEXBARDI_ADDRESS(loops[0], KEXBARDI_POINTER), output_of(loops[1]));
     write_word(KEXBARDI_ADDRESS(loops[chain ? 1 : 2], KEXBARDI_POINTER), output_of(loops[chain ? 2 : 1]));
@@ -862,6 +1093,18 @@ static void run_cascade(unsigned first) {
     for (unsigned n = 0; n < 3; n++) settle(write_word, loops[n]);
 }
 
+/* A loop in one go that works on while its formats change. */
+static void run_formats(unsigned loop) {
+    unsigned base = KEXBARDI_ADDRESS(loop, 0);
+    settle(write_word, loop);
+    ask_for(loop, KEXBARDI_M1_AUTOMATIC);
+    for (unsigned left = 10 + any(20); left > 0; left--) {
+        if (once_in(3)) change_format(write_word, loop);
+        if (once_in(4)) write_word(base + KEXBARDI_SETPOINT, any(full_scale(ours.words[base + KEXBARDI_MODE_2]) + 1));
+        mend(loop, sample(loop));
+    }
+}
+
 /* A sample, now and then with a command. */
 static void sample_and_mend(unsigned loop) {
     if (once_in(16)) write_word(KEXBARDI_ADDRESS(loop, KEXBARDI_PROFILE_FLAGS), command(loop));
@@ -870,9 +1113,10 @@ static void sample_and_mend(unsigned loop) {
 
 static void turn(void) {
     unsigned loop = 1 + any(16), kind = any(10000);
-    if (kind < 8200) sample_and_mend(loop);
-    else if (kind < 8250) run_profile(loop);
-    else if (kind < 8300) run_cascade(loop);
+    if (kind < 8170) sample_and_mend(loop);
+    else if (kind < 8220) run_profile(loop);
+    else if (kind < 8270) run_cascade(loop);
+    else if (kind < 8300) run_formats(loop);
     else if (kind < 8500) any_forecast(loop);
     else if (kind < 9000) change(store, loop);
     else if (kind < 9200) record(once_in(10) ? any(256) : loop);
@@ -896,6 +1140,11 @@ static int report(void) {
         printf("refused with %d by a wide number: %lu\n", wide[n], wide_refusals[wide[n]]), missing += wide_refusals[wide[n]] == 0;
     for (int n = 0; n < FEATURES; n++) printf("accepted, %s: %lu\n", feature_names[n], features[n]), missing += features[n] == 0;
     for (int n = 1; n <= KEXBARDI_SEGMENTS; n++) printf("accepted, moved in segment %d: %lu\n", n, segments[n]), missing += segments[n] == 0;
+    for (int in = 0; in < FORMATS; in++)
+        for (int out = 0; out < FORMATS; out++) {
+            printf("accepted, %u bits in and %u out: %lu\n", widths[in], widths[out], pairs[in][out]);
+            missing += pairs[in][out] == 0;
+        }
     for (int n = 0; n < REACHED; n++) printf("%s: %lu\n", reached_names[n], reached[n]), missing += reached[n] == 0;
     for (int n = 0; n < 5; n++) {
         printf("forecast refused with %d: %lu\n", of_forecast[n], forecast_refusals[of_forecast[n]]);

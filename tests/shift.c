@@ -1,8 +1,8 @@
 /* A whole shift on the archive and on the plain engine: sixteen loops, 20 samples a second each, eight hours.
  * Every loop is closed over a small process, and an instructor changes setpoints, gains and modes. Some loops follow
  * profiles of half an hour and more, which the instructor starts, holds, resumes and jogs. In Cascade the loops with
- * Bumpless I follow another loop's output, which from Automatic is a transfer. It links the archive and
- * bench/plain_engine.c:
+ * Bumpless I follow another loop's output, which from Automatic is a transfer. Nine loops have an output format of their own, every
+ * pair of formats one of them. It links the archive and bench/plain_engine.c:
  *   gcc -O2 -std=c99 -Itarget/kexbardi/include -Ibench tests/shift.c bench/plain_engine.c target/kexbardi/lib/libkexbardi.a */
 #include "kexbardi.h"
 #include "plain_engine.h"
@@ -21,10 +21,10 @@ struct desk {
     uint16_t line[4];
 };
 
-/* a first-order lag from the output to the raw PV */
+/* a first-order lag from the output to the raw PV, from one full scale to the other */
 struct process {
     int64_t level;
-    int lag, reverse, full;
+    int lag, reverse, full, out_full;
 };
 
 static struct desk ours, plain;
@@ -56,8 +56,29 @@ static int has_profile(unsigned loop) { return loop % 4 == 2 || loop == 9 || loo
 
 static int has_bumpless_2(unsigned loop) { return loop % 4 == 1; }
 
-/* the loop whose output a loop with Bumpless I follows: one of the same format, so that its output is never above full scale */
-static unsigned major_of(unsigned loop) { return loop > 13 ? loop - 12 : loop + 3; }
+/* the formats, 0, 1 and 2 for 12, 15 and 16 bits: the nine pairs in loops 8 to 16 */
+static const unsigned full_scales[] = {KEXBARDI_FULL_12, KEXBARDI_FULL_15, KEXBARDI_FULL_16};
+
+static unsigned input_format(unsigned loop) { return loop % 3; }
+
+static int has_output_format(unsigned loop) { return loop >= 8; }
+
+static unsigned output_format(unsigned loop) { return has_output_format(loop) ? loop / 3 % 3 : input_format(loop); }
+
+static unsigned mode_2(unsigned loop) {
+    static const unsigned inputs[] = {0, KEXBARDI_M2_FIFTEEN_BITS, KEXBARDI_M2_SIXTEEN_BITS};
+    static const unsigned outputs[] = {0, KEXBARDI_M2_OUTPUT_FIFTEEN_BITS, KEXBARDI_M2_OUTPUT_SIXTEEN_BITS};
+    unsigned word = inputs[input_format(loop)];
+    return has_output_format(loop) ? word | KEXBARDI_M2_OUTPUT_FORMAT | outputs[output_format(loop)] : word;
+}
+
+/* the loop whose output a loop with Bumpless I follows: the next one whose output has the format of this loop's input */
+static unsigned major_of(unsigned loop) {
+    unsigned major = loop;
+    do major = major % KEXBARDI_LOOPS + 1;
+    while (output_format(major) != input_format(loop));
+    return major;
+}
 
 /* mode 1: a request, alarms watched, and what this loop is for its whole life */
 static unsigned mode_1(unsigned loop, unsigned request) {
@@ -88,16 +109,16 @@ static void fill_table(unsigned table, unsigned full) {
 }
 
 static void settle(unsigned loop) {
-    static const unsigned mode_2s[] = {0, 2, 512}, full_scales[] = {4095, 32767, 65535};
-    unsigned base = KEXBARDI_ADDRESS(loop, 0), full = full_scales[loop % 3];
+    unsigned base = KEXBARDI_ADDRESS(loop, 0), full = full_scales[input_format(loop)], out_full = full_scales[output_format(loop)];
     struct process *process = &processes[loop - 1];
     process->level = 0;
     process->lag = 40 + 10 * (int)loop;
     process->reverse = loop % 7 == 0;
     process->full = (int)full;
-    store(base + KEXBARDI_MODE_2, mode_2s[loop % 3]);
+    process->out_full = (int)out_full;
+    store(base + KEXBARDI_MODE_2, mode_2(loop));
     store(base + KEXBARDI_SETPOINT, setpoint(full));
-    store(base + KEXBARDI_OUTPUT, full / 3);
+    store(base + KEXBARDI_OUTPUT, out_full / 3);
     store(base + KEXBARDI_PERIOD, bcd(5));
     store(base + KEXBARDI_GAIN, bcd(50 + 10 * loop));
     store(base + KEXBARDI_RESET, bcd(loop == 13 ? 9999 : 200 + 50 * loop));
@@ -108,8 +129,8 @@ static void settle(unsigned loop) {
     store(base + KEXBARDI_CHANGE, full / 200);
     store(base + KEXBARDI_HYSTERESIS, 10);
     store(base + KEXBARDI_DEADBAND, full / 500);
-    store(base + KEXBARDI_OUTPUT_LOW, loop % 2 * full / 20);
-    store(base + KEXBARDI_OUTPUT_HIGH, full - loop % 2 * full / 20);
+    store(base + KEXBARDI_OUTPUT_LOW, loop % 2 * out_full / 20);
+    store(base + KEXBARDI_OUTPUT_HIGH, out_full - loop % 2 * out_full / 20);
     store(base + KEXBARDI_POINTER, has_bumpless_2(loop) ? MASTER : KEXBARDI_ADDRESS(major_of(loop), KEXBARDI_OUTPUT));
     store(base + KEXBARDI_MODE_1, mode_1(loop, 1));
     if (has_profile(loop)) {
@@ -122,8 +143,8 @@ static void settle(unsigned loop) {
 /* The raw PV after a twentieth of a second: the lag, and noise of a few counts. */
 static uint16_t measure(unsigned loop) {
     struct process *process = &processes[loop - 1];
-    int64_t out = ours.words[KEXBARDI_ADDRESS(loop, KEXBARDI_OUTPUT)], target = process->reverse ? process->full - out : out;
-    process->level += (target * PARTS - process->level) / process->lag;
+    int64_t out = ours.words[KEXBARDI_ADDRESS(loop, KEXBARDI_OUTPUT)], valve = process->reverse ? process->out_full - out : out;
+    process->level += (valve * PARTS * process->full / process->out_full - process->level) / process->lag;
     int64_t raw = process->level / PARTS + (int64_t)any(9) - 4;
     return (uint16_t)(raw < 0 ? 0 : raw > process->full ? process->full : raw);
 }
@@ -141,7 +162,7 @@ static void command(unsigned loop) {
     }
 }
 
-/* Whether the PV is well inside any loop's output limits: then a transfer is not refused. */
+/* Whether the PV is well inside the major loop's output limits, which are of the same scale: then a transfer is not refused. */
 static int may_follow(unsigned loop) {
     int full = processes[loop - 1].full, pv = ours.words[KEXBARDI_ADDRESS(loop, KEXBARDI_PV)];
     return pv > full / 8 && pv < full - full / 8;
@@ -150,10 +171,11 @@ static int may_follow(unsigned loop) {
 /* Once in about five minutes of a loop: a setpoint, a gain, a mode, an output by hand, and a profile's command. */
 static void instruct(unsigned loop) {
     unsigned base = KEXBARDI_ADDRESS(loop, 0), full = (unsigned)processes[loop - 1].full, word = ours.words[base + KEXBARDI_MODE_1];
+    unsigned out_full = (unsigned)processes[loop - 1].out_full;
     switch (any(9)) {
     case 0: case 1: store(base + KEXBARDI_SETPOINT, setpoint(full)); break;
     case 2: store(base + KEXBARDI_GAIN, bcd(20 + any(200))); break;
-    case 3: store(base + KEXBARDI_MODE_1, word | 1), store(base + KEXBARDI_OUTPUT, any(full + 1)); break;
+    case 3: store(base + KEXBARDI_MODE_1, word | 1), store(base + KEXBARDI_OUTPUT, any(out_full + 1)); break;
     case 4: case 5: store(base + KEXBARDI_MODE_1, word | 2); break;
     case 6: case 7: if (may_follow(loop)) store(base + KEXBARDI_MODE_1, word | 4); break;
     default: store(MASTER, setpoint(4095)); break;

@@ -29,7 +29,7 @@ use Rattle.profile.specs.Samples.{sampledBy}
 use Rattle.alarms.specs.Status.{levelsOf, statusOf}
 use Rattle.carried.specs.Layout.{resetRecord, outOfRange, numbersOf, profileFrom, recordFrom}
 use Rattle.engine.specs.Sensing.{pvOf, setpointOf, changed, entering, runsOn, targetOf, profiledOf, faultAfter, errorIn, sensedOf}
-use Rattle.engine.specs.Driving.{heldOf, startOf, keptIn, pastOf, positionInputs, velocityInputs, termsIn, movedPosition, movedVelocity, movedOf, drivenOf}
+use Rattle.engine.specs.Driving.{heldOf, startOf, keptIn, pastOf, positionInputs, velocityInputs, termsIn, movedIn, movedOf, drivenOf}
 use Rattle.engine.specs.Writing.{outputWord, biasWord, statusWord, writtenOf, nextOf, writtenTo}
 use Rattle.engine.specs.Steps.{stepOf}
 use Rattle.plain.specs.Exact.{exactSum, exactOutput, exactBias}
@@ -159,5 +159,5 @@ transfers =
     ∷ []
 
 pub computed : map from-reset (mixed ∷ transfers ∷ []) ≡ map (map expected) (mixed ∷ transfers ∷ [])
-unfolding faultOf pairAt anyBelow badDigitIn highEndIn programOf commandOf withHold handedOver joggedOf toward rampedTo rampedBy soakedBy profileMoved workedBy advancedBy deviates flagsOf runsOn profiledOf sampledBy noProgram faultAfter profileFrom clampBy halfUp halfAway rootWithin rootOf over _+ᶠ_ negᶠ ltᶠ roundTo bcd badDigit modeAfter mode2Of badDigits tuningOf settingsOf remoteOf isTransfer majorOf limitsAt majorIn readingOf inDeadband squaredOver errorOf outputCounts exactP exactI exactD exactTerms termsOf outsideOf positionOf velocityOf apart levelsOf statusOf resetRecord pvOf setpointOf changed entering heldOf startOf targetOf errorIn sensedOf keptIn pastOf positionInputs velocityInputs termsIn movedPosition movedVelocity movedOf drivenOf outputWord biasWord statusWord writtenOf nextOf stepOf writtenTo exactSum exactOutput exactBias begun countAfter movedBy plainAfter plainMarked outOfRange numbersOf recordFrom flatten fittingOf noLoop resetDesk resetAnswer resetLeft storeAnswer storeLeft transferLeft doneBy sampleAnswer sampleLeft answerTo deskAfter sampledAll fed expected rows pair from-reset set-up step writing mixed both cascade transfers
+unfolding faultOf pairAt anyBelow badDigitIn highEndIn programOf commandOf withHold handedOver joggedOf toward rampedTo rampedBy soakedBy profileMoved workedBy advancedBy deviates flagsOf runsOn profiledOf sampledBy noProgram faultAfter profileFrom clampBy halfUp halfAway rootWithin rootOf over _+ᶠ_ negᶠ ltᶠ roundTo bcd badDigit modeAfter mode2Of badDigits tuningOf settingsOf remoteOf isTransfer majorOf limitsAt majorIn readingOf inDeadband squaredOver errorOf outputCounts exactP exactI exactD exactTerms termsOf outsideOf positionOf velocityOf apart levelsOf statusOf resetRecord pvOf setpointOf changed entering heldOf startOf targetOf errorIn sensedOf keptIn pastOf positionInputs velocityInputs termsIn movedIn movedOf drivenOf outputWord biasWord statusWord writtenOf nextOf stepOf writtenTo exactSum exactOutput exactBias begun countAfter movedBy plainAfter plainMarked outOfRange numbersOf recordFrom flatten fittingOf noLoop resetDesk resetAnswer resetLeft storeAnswer storeLeft transferLeft doneBy sampleAnswer sampleLeft answerTo deskAfter sampledAll fed expected rows pair from-reset set-up step writing mixed both cascade transfers
 computed = refl

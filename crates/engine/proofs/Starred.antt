@@ -29,7 +29,7 @@ use Rattle.carried.specs.declared.record.Carried.{Carried}
 use Rattle.carried.specs.Layout.{resetRecord}
 use Rattle.judging.specs.Judging.{readingCases}
 use Rattle.engine.specs.Sensing.{pvOf, setpointOf, changed, entering, runsOn, targetOf, profiledOf, faultAfter, errorIn, sensedOf}
-use Rattle.engine.specs.Driving.{heldOf, startOf, keptIn, pastOf, positionInputs, velocityInputs, termsIn, movedPosition, movedVelocity, movedOf, drivenOf}
+use Rattle.engine.specs.Driving.{heldOf, startOf, keptIn, pastOf, positionInputs, velocityInputs, termsIn, movedIn, movedOf, drivenOf}
 use Rattle.engine.specs.Writing.{outputWord, biasWord, statusWord, writtenOf, nextOf, writtenTo}
 use Rattle.engine.specs.Steps.{stepOf}
 
@@ -109,5 +109,5 @@ given x = let words = run reset (x .calls) .words in map (λ (i : ℕ). getD wor
 
 -- each of the thirteen cases gives the numbers of X1 to X3
 pub all-starred : map given starred ≡ map (λ x. x .answers) starred
-unfolding faultOf pairAt anyBelow badDigitIn highEndIn programOf commandOf withHold handedOver joggedOf toward rampedTo rampedBy soakedBy movedBy workedBy advancedBy deviates flagsOf runsOn profiledOf sampledBy noProgram faultAfter clampBy halfUp halfAway rootWithin rootOf over negᶠ roundTo bcd badDigit modeAfter mode2Of badDigits tuningOf settingsOf remoteOf transfers readingOf inDeadband squaredOver errorOf outputCounts exactP exactI exactD exactTerms termsOf outsideOf positionOf velocityOf apart levelsOf statusOf resetRecord pvOf setpointOf changed entering heldOf startOf targetOf errorIn sensedOf keptIn pastOf positionInputs velocityInputs termsIn movedPosition movedVelocity movedOf drivenOf outputWord biasWord statusWord writtenOf nextOf stepOf writtenTo sampled after run reset begun line9 low back _gives_at_ starred given
+unfolding faultOf pairAt anyBelow badDigitIn highEndIn programOf commandOf withHold handedOver joggedOf toward rampedTo rampedBy soakedBy movedBy workedBy advancedBy deviates flagsOf runsOn profiledOf sampledBy noProgram faultAfter clampBy halfUp halfAway rootWithin rootOf over negᶠ roundTo bcd badDigit modeAfter mode2Of badDigits tuningOf settingsOf remoteOf transfers readingOf inDeadband squaredOver errorOf outputCounts exactP exactI exactD exactTerms termsOf outsideOf positionOf velocityOf apart levelsOf statusOf resetRecord pvOf setpointOf changed entering heldOf startOf targetOf errorIn sensedOf keptIn pastOf positionInputs velocityInputs termsIn movedIn movedOf drivenOf outputWord biasWord statusWord writtenOf nextOf stepOf writtenTo sampled after run reset begun line9 low back _gives_at_ starred given
 all-starred = refl

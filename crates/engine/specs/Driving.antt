@@ -57,18 +57,15 @@ lowUnits s = pos (unitsOf (s .limits .low))
 abbrev pub highUnits : Settings → ℤ
 highUnits s = pos (unitsOf (s .limits .high))
 
--- A8 with the loop's settings
-unfoldable pub movedPosition : Settings → Drive → Past → ℕ → ℤ → Drive
-movedPosition s drive past p e = positionOf (s .mode1 .freeze) drive (termsIn s (positionInputs past p e)) (lowUnits s) (highUnits s)
+-- A8 or A9 by the form, with the loop's settings
+unfoldable pub movedIn : Settings → Drive → Inputs → Drive
+movedIn s drive x =
+    let t = termsIn s x in
+    cond (s .mode1 .velocity) (velocityOf drive t (lowUnits s) (highUnits s)) (positionOf (s .mode1 .freeze) drive t (lowUnits s) (highUnits s))
 
--- A9 with the loop's settings
-unfoldable pub movedVelocity : Settings → Drive → Past → ℕ → ℤ → Drive
-movedVelocity s drive past p e = velocityOf drive (termsIn s (velocityInputs past p e)) (lowUnits s) (highUnits s)
-
--- A8 or A9 by the form; in Manual there are no terms, and bias and carried output stay (A10)
+-- A7 to A9; in Manual there are no terms, and bias and carried output stay (A10)
 unfoldable pub movedOf : Settings → Bool → Drive → Past → ℕ → ℤ → Drive
-movedOf s manual drive past p e =
-    cond manual drive (cond (s .mode1 .velocity) (movedVelocity s drive past p e) (movedPosition s drive past p e))
+movedOf s manual drive past p e = cond manual drive (movedIn s drive (inputsOf (s .mode1 .velocity) past p e))
 
 -- A6 to A9 together, `held` being word 5 inside the limits
 unfoldable pub drivenOf : Reading → Carried → Sensed → ℕ → Drive

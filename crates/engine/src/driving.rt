@@ -11,11 +11,13 @@ use table::Reading;
 use table::Settings;
 use table::is_manual;
 ghost use mathlib.Core.Path.{_≡_};
+ghost use mathlib.Core.Bool.{false};
 ghost use Prim.Native.Nat.{_≤_, _<_};
 ghost use lib.IntN.{natAbs};
-ghost use Rattle.control.specs.Premises.{Tuned, Bounded};
-ghost use Rattle.engine.specs.Driving.{heldOf, startOf, keptIn, pastOf, positionInputs, velocityInputs, inputsOf, termsIn, movedOf, drivenOf};
-ghost use Rattle.engine.specs.Premises.{Movable, Drivable};
+ghost use Rattle.control.specs.Counts.{outputCounts};
+ghost use Rattle.control.specs.Premises.{Tuned, Bounded, Ready};
+ghost use Rattle.engine.specs.Driving.{heldOf, startOf, keptIn, pastOf, positionInputs, velocityInputs, inputsOf, termsIn, lowUnits, highUnits, movedIn, drivenOf};
+ghost use Rattle.engine.specs.Premises.{Drivable};
 
 // A4, A10: word 5 brought inside the output limits.
 pub(crate) fn held_word(s: Settings) -> u16
@@ -50,22 +52,6 @@ fn kept_in(m: Mode2, kept: Past) -> Past
         last,
         prior,
         error: kept.error,
-    }
-}
-
-// A6: what counts as the past for the terms; `pv` is in counts of the output.
-fn past_for(m: Mode2, fresh: bool, kept: Past, pv: u16, error: i64) -> Past
-    requires { ⌜ 0 < m .input .scale ⌝ }
-    ensures { λ r. ⌜ r ≡ pastOf m fresh kept pv error ⌝ }
-{
-    if fresh {
-        Past {
-            last: pv,
-            prior: pv,
-            error,
-        }
-    } else {
-        kept_in(m, kept)
     }
 }
 
@@ -116,15 +102,39 @@ fn inputs_for(velocity: bool, past: Past, pv: u16, e: i64) -> Inputs
     }
 }
 
-// A7 to A9: the bias and output after the sample. In Manual there are no terms (A10).
-fn moved(s: Settings, manual: bool, drive: Drive, past: Past, pv: u16, e: i64) -> Drive
-    requires { ⌜ Movable s drive past pv e ⌝ }
-    ensures { λ r. ⌜ r ≡ movedOf s manual drive past pv e ⌝ }
+// A6, A7: what the terms act on: at an entry and at the first accepted sample they see no change.
+fn inputs_in(s: Settings, fresh: bool, kept: Past, sensed: Sensed) -> Inputs
+    requires { ⌜ (0 < s .mode2 .input .scale) × (sensed .converted ≡ outputCounts (s .mode2) (sensed .pv)) ⌝ }
+    requires { ⌜ (fresh ≡ false → natAbs (kept .error) ≤ 65535) × (natAbs (sensed .error) ≤ 65535) ⌝ }
+    ensures { λ r. ⌜ r ≡ inputsOf (s .mode1 .velocity) (pastOf (s .mode2) fresh kept (sensed .converted) (sensed .error)) (sensed .converted) (sensed .error) ⌝ }
 {
-    if manual {
-        return drive;
+    let formats = s.mode2;
+    if fresh {
+        let past = Past {
+            last: sensed.converted,
+            prior: sensed.converted,
+            error: sensed.error,
+        };
+        return inputs_for(s.mode1.velocity, past, sensed.converted, sensed.error);
     }
-    let terms = terms_in(s, inputs_for(s.mode1.velocity, past, pv, e));
+    if formats.separate {
+        inputs_for(
+            s.mode1.velocity,
+            kept_in(formats, kept),
+            sensed.converted,
+            sensed.error,
+        )
+    } else {
+        inputs_for(s.mode1.velocity, kept, sensed.pv, sensed.error)
+    }
+}
+
+// A8 or A9, by the form.
+fn moved_in(s: Settings, drive: Drive, inputs: Inputs) -> Drive
+    requires { ⌜ Tuned (s .tuning) × Bounded inputs × Ready drive (termsIn s inputs) (lowUnits s) (highUnits s) ⌝ }
+    ensures { λ r. ⌜ r ≡ movedIn s drive inputs ⌝ }
+{
+    let terms = terms_in(s, inputs);
     let low = numbers::units(s.limits.low);
     let high = numbers::units(s.limits.high);
     if s.mode1.velocity {
@@ -134,24 +144,21 @@ fn moved(s: Settings, manual: bool, drive: Drive, past: Past, pv: u16, e: i64) -
     }
 }
 
-// A6 to A9: the bias and output after the sample. `held` is word 5 inside the limits.
+// A6 to A9: the bias and output after the sample; in Manual there are no terms (A10). `held` is word 5 inside the
+// limits.
 pub(crate) fn driven(reading: Reading, carried: Carried, sensed: Sensed, held: u16) -> Drive
-    requires { ⌜ (0 < reading .settings .mode2 .input .scale) × Drivable reading carried sensed held ⌝ }
+    requires { ⌜ (0 < reading .settings .mode2 .input .scale) × (sensed .converted ≡ outputCounts (reading .settings .mode2) (sensed .pv)) × Drivable reading carried sensed held ⌝ }
     ensures { λ r. ⌜ r ≡ drivenOf reading carried sensed held ⌝ }
 {
     let s = reading.settings;
-    let formats = s.mode2;
     let mode = reading.mode;
     let kept = carried.past;
     let before = carried.drive;
-    let manual = is_manual(mode);
     let start = started(sensed.entry, held, before);
-    let past = past_for(
-        formats,
-        !carried.sampled | sensed.entry,
-        kept,
-        sensed.converted,
-        sensed.error,
-    );
-    moved(s, manual, start, past, sensed.converted, sensed.error)
+    let manual = is_manual(mode);
+    if manual {
+        return start;
+    }
+    let inputs = inputs_in(s, !carried.sampled | sensed.entry, kept, sensed);
+    moved_in(s, start, inputs)
 }

@@ -159,8 +159,8 @@ fn error_in(s: Settings, target: u16, pv: u16, converted: u16) -> i64
     ensures { λ r. ⌜ r ≡ errorIn s target pv ⌝ }
 {
     let formats = s.mode2;
-    let quiet = control::in_deadband(s.mode1.deadband, s.deadband, target, pv);
     let setpoint = control::output_counts(formats, target);
+    let quiet = control::in_deadband(s.mode1.deadband, s.deadband, target, pv);
     control::error(
         quiet,
         s.mode1.squared,
@@ -179,7 +179,6 @@ pub(crate) fn sensed_by(reading: Reading, state: State, raw: u16) -> Sensed
     let formats = s.mode2;
     let mode = reading.mode;
     let pv = pv_in(reading, raw);
-    let converted = control::output_counts(formats, pv);
     let entry = enters(state, mode, s.mode1.velocity);
     let change = changes(state, s.mode1.velocity);
     let program = reading.program;
@@ -190,6 +189,7 @@ pub(crate) fn sensed_by(reading: Reading, state: State, raw: u16) -> Sensed
     let setpoint = after.setpoint;
     let flags = after.flags;
     let fault = fault_after(reading);
+    let converted = control::output_counts(formats, pv);
     let error = error_in(s, setpoint, pv, converted);
     let mark = mark_after(mode, state.mark);
     Sensed {

@@ -10,5 +10,9 @@ pub fn convert(from: u16, to: u16, count: u16) -> u16
     ensures { λ r. ⌜ r ≡ converted from to count ⌝ }
 {
     let nearest = half_up(count as u64 * to as u64, from as u64);
-    if nearest < to as u64 { nearest as u16 } else { to }
+    if nearest < to as u64 {
+        nearest as u16
+    } else {
+        to
+    }
 }

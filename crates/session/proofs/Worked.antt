@@ -24,7 +24,7 @@ use Rattle.profile.specs.Samples.{sampledBy}
 use Rattle.alarms.specs.Status.{levelsOf, statusOf}
 use Rattle.carried.specs.Layout.{resetRecord, outOfRange, numbersOf, profileFrom, recordFrom}
 use Rattle.engine.specs.Sensing.{pvOf, setpointOf, changed, entering, runsOn, targetOf, profiledOf, faultAfter, errorIn, sensedOf}
-use Rattle.engine.specs.Driving.{heldOf, startOf, keptIn, pastOf, positionInputs, velocityInputs, termsIn, movedPosition, movedVelocity, movedOf, drivenOf}
+use Rattle.engine.specs.Driving.{heldOf, startOf, keptIn, pastOf, positionInputs, velocityInputs, termsIn, movedIn, movedOf, drivenOf}
 use Rattle.engine.specs.Writing.{outputWord, biasWord, statusWord, writtenOf, nextOf, writtenTo}
 use Rattle.engine.specs.Steps.{stepOf}
 use Rattle.desk.specs.Desk.{fittingOf, noLoop, resetDesk, resetAnswer, resetLeft, storeAnswer, storeLeft, transferLeft, doneBy, sampleAnswer, sampleLeft}
@@ -53,5 +53,5 @@ text =
     ++ bytes "10 refused 4\n10 records, 1 refused\n"
 
 pub worked : printedOf file ≡ text
-unfolding faultOf pairAt anyBelow badDigitIn highEndIn programOf commandOf withHold handedOver joggedOf toward rampedTo rampedBy soakedBy movedBy workedBy advancedBy deviates flagsOf runsOn profiledOf sampledBy noProgram faultAfter profileFrom clampBy halfUp halfAway rootWithin rootOf over negᶠ roundTo digitsWithin decimalOf recordAt positionsWithin positionsFrom recordsFrom bcd badDigit modeAfter mode2Of badDigits tuningOf settingsOf remoteOf transfers majorOf limitsAt majorIn readingOf inDeadband squaredOver errorOf outputCounts exactP exactI exactD exactTerms termsOf outsideOf positionOf velocityOf apart levelsOf statusOf resetRecord pvOf setpointOf changed entering heldOf startOf targetOf errorIn sensedOf keptIn pastOf positionInputs velocityInputs termsIn movedPosition movedVelocity movedOf drivenOf outputWord biasWord statusWord writtenOf nextOf stepOf writtenTo outOfRange numbersOf recordFrom flatten fittingOf noLoop resetDesk resetAnswer resetLeft storeAnswer storeLeft transferLeft doneBy sampleAnswer sampleLeft answerTo deskAfter lineText lastText linesOf printedOf file text
+unfolding faultOf pairAt anyBelow badDigitIn highEndIn programOf commandOf withHold handedOver joggedOf toward rampedTo rampedBy soakedBy movedBy workedBy advancedBy deviates flagsOf runsOn profiledOf sampledBy noProgram faultAfter profileFrom clampBy halfUp halfAway rootWithin rootOf over negᶠ roundTo digitsWithin decimalOf recordAt positionsWithin positionsFrom recordsFrom bcd badDigit modeAfter mode2Of badDigits tuningOf settingsOf remoteOf transfers majorOf limitsAt majorIn readingOf inDeadband squaredOver errorOf outputCounts exactP exactI exactD exactTerms termsOf outsideOf positionOf velocityOf apart levelsOf statusOf resetRecord pvOf setpointOf changed entering heldOf startOf targetOf errorIn sensedOf keptIn pastOf positionInputs velocityInputs termsIn movedIn movedOf drivenOf outputWord biasWord statusWord writtenOf nextOf stepOf writtenTo outOfRange numbersOf recordFrom flatten fittingOf noLoop resetDesk resetAnswer resetLeft storeAnswer storeLeft transferLeft doneBy sampleAnswer sampleLeft answerTo deskAfter lineText lastText linesOf printedOf file text
 worked = refl

@@ -53,7 +53,7 @@ unusedBits word =
 unfoldable pub mode2Of : ℕ → Mode2
 mode2Of word = record {
   input = inputFormat word;
-  output = outputFormat word;
+  output = outputFormat word (inputFormat word);
   separate = bit 10 word;
   minutes = bit 4 word;
   unused = unusedBits word;

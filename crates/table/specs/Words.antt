@@ -32,8 +32,8 @@ abbrev pub inputFormat : ℕ → Format
 inputFormat word = formatBy (bit 9 word) (bit 1 word)
 
 -- M3: the output's, of full scale G: with bit 10 on by bits 13 and 12, else the input's
-abbrev pub outputFormat : ℕ → Format
-outputFormat word = cond (bit 10 word) (formatBy (bit 13 word) (bit 12 word)) (inputFormat word)
+abbrev pub outputFormat : ℕ → Format → Format
+outputFormat word input = cond (bit 10 word) (formatBy (bit 13 word) (bit 12 word)) input
 
 -- W1: the address of word 0 of loop k
 abbrev pub baseOf : ℕ → ℕ

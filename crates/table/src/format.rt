@@ -33,15 +33,15 @@ impl Format {
         Format::by(word / 512 % 2 == 1, word / 2 % 2 == 1)
     }
 
-    // Of the output, from mode 2: with bit 10 on by bits 13 and 12, else as the input's.
-    pub fn of_output(word: u16) -> Format
-        ensures { λ r. ⌜ r ≡ outputFormat word ⌝ }
+    // Of the output, from mode 2: with bit 10 on by bits 13 and 12, else the input's.
+    pub fn of_output(word: u16, input: Format) -> Format
+        ensures { λ r. ⌜ r ≡ outputFormat word input ⌝ }
     {
         let separate = word / 1024 % 2 == 1;
         if separate {
             Format::by(word / 8192 % 2 == 1, word / 4096 % 2 == 1)
         } else {
-            Format::new(word)
+            input
         }
     }
 }

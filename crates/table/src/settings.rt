@@ -147,7 +147,7 @@ fn read_mode2(word: u16) -> Mode2
     ensures { λ r. ⌜ r ≡ mode2Of word ⌝ }
 {
     let input = Format::new(word);
-    let output = Format::of_output(word);
+    let output = Format::of_output(word, input);
     let unused = unused_bits(word);
     Mode2 {
         input,

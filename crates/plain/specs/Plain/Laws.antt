@@ -23,7 +23,7 @@ use Rattle.carried.specs.Layout.{marked, markedRecord}
 use Rattle.carried.specs.Ranged.{Ranged}
 use Rattle.engine.specs.declared.sensing.Sensed.{Sensed}
 use Rattle.engine.specs.Sensing.{sensedOf}
-use Rattle.engine.specs.Driving.{heldOf, startOf, lowUnits, highUnits, keptIn, pastOf, positionInputs, termsIn, movedPosition, movedOf, drivenOf}
+use Rattle.engine.specs.Driving.{heldOf, startOf, lowUnits, highUnits, keptIn, pastOf, positionInputs, termsIn, movedIn, movedOf, drivenOf}
 use Rattle.engine.specs.Driving.Laws.{moved-inside}
 use Rattle.engine.specs.Writing.{outputWord, nextOf, writtenOf}
 use Rattle.engine.specs.Steps.{stepOf}
@@ -113,7 +113,7 @@ module _ {r : Reading} {c : Carried} {raw : ℕ} (u : Usable r raw) (g : Ranged 
   -- the n + 1-st sample, on a bias within n units of B
   module _ (velocity : r .settings .mode1 .velocity ≡ false) (freeze : r .settings .mode1 .freeze ≡ false) where
     moved-is : drive false ≡ positionOf false start (termsIn (r .settings) (positionInputs past (x .converted) (x .error))) (lowUnits (r .settings)) (highUnits (r .settings))
-    unfolding movedOf movedPosition
+    unfolding movedOf movedIn
     moved-is = rw (velocity, freeze)
 
     loud : (n : ℕ) (B : Fraction) → Near (inCounts (pos n)) (inCounts (start .bias)) B → Both false (movedBy (suc n) q r x B (past .last))

@@ -66,7 +66,7 @@ format-scaled sixteen fifteen = record {
 pub input-scaled : (word : ℕ) → Scaled (inputFormat word)
 input-scaled word = format-scaled (bit 9 word) (bit 1 word)
 
-pub output-scaled : (word : ℕ) → Scaled (outputFormat word)
+pub output-scaled : (word : ℕ) → Scaled (outputFormat word (inputFormat word))
 output-scaled word = go (bit 10 word)
   where
     go : (separate : Bool) → Scaled (cond separate (formatBy (bit 13 word) (bit 12 word)) (inputFormat word))

@@ -1,53 +1,51 @@
--- `engine::driven` meets its contract, by what its callees ensure.
+-- `engine::driven` meets its contract, by what its callees ensure; the terms fit, as an accepted sample's do.
 use borrow.Author.Needs.{needs}
 use mathlib.Core.Path.{_≡_, _∙_}
-use mathlib.Core.Bool.{not, _||_}
-use mir.Syntax.{w64}
-use mir.Val.{toZ, ofZ}
-use mir.Facts.{toZ-ofZ}
-use Rattle.engine.specs.Driving.{pastOf, drivenOf}
+use mathlib.Core.Bool.{Bool, false, not, _||_}
+use Prim.Native.Nat.{_≤_}
+use lib.IntN.{ℤ, natAbs}
+use Rattle.table.specs.declared.settings.Mode2.{Mode2}
+use Rattle.carried.specs.declared.record.Past.{Past}
+use Rattle.engine.specs.Driving.{keptIn, pastOf, movedOf, drivenOf}
+use Rattle.engine.specs.Driving.Laws.{inputs-bounded, ready}
 use Rattle.engine.proofs.driving.driven.Statement.{statement}
 use Rattle.engine.proofs.driving.driven.Tie as tie
-
-is-manual-requires : tie.Need-is-manual-requires
-is-manual-requires c κs = search needs
 
 started-requires : tie.Need-started-requires
 started-requires c κs = search needs
 
-past-for-requires : tie.Need-past-for-requires
-past-for-requires c κs = search needs
-
-module _ (c : tie.After-past-for) where
-  start : tie.Start
-  start = c .before .before .before .before .before .before .before .before .before .before
-
-  error : toZ w64 (ofZ w64 (start .args .sensed .error)) ≡ start .args .sensed .error
-  unfolding start
-  error = toZ-ofZ {w = w64} {z = start .args .sensed .error} (search needs)
-
-  past : let a = start .args in
-      c .past-for .result
-      ≡ pastOf (a .reading .settings .mode2) (not (a .carried .sampled) || a .sensed .entry) (a .carried .past) (a .sensed .converted) (a .sensed .error)
-  unfolding start
-  past = c .past-for .ensures ∙ simp error
-
-moved-requires : tie.Need-moved-requires
-unfolding start
-moved-requires c κs =
-    let s = c .before .before .before .before .before .before .before .before .before .before .before in
-    simp (error (c .before)) (simp (c .before .before .before .before .before .started .ensures, past (c .before)) (s .pre .1))
+is-manual-requires : tie.Need-is-manual-requires
+is-manual-requires c κs = search needs
 
 returns : tie.Need-returns
-unfolding drivenOf start
-returns c =
-    c .moved .ensures
-    ∙ simp (error (c .before .before))
-    (simp (
-      past (c .before .before),
-      c .before .before .before .before .before .before .started .ensures,
-      c .before .before .before .before .before .before .before .is-manual .ensures,
-    ))
+unfolding drivenOf movedOf
+returns c = simp (c .before .before .started .ensures, ← c .before .is-manual .ensures, c .if1 .taken)
+
+-- the carried error is what the past has of it where that is not the present
+kept-error : (m : Mode2) (fresh : Bool) (kept : Past) (p : _) (e : ℤ) → natAbs (pastOf m fresh kept p e .error) ≤ 65535 → fresh ≡ false → natAbs (kept .error) ≤ 65535
+unfolding pastOf keptIn
+kept-error m fresh kept p e h off = rw off at h
+
+inputs-in-requires : tie.Need-inputs-in-requires
+inputs-in-requires c κs =
+    let s = c .before .before .before .before .before .before .before .before in
+    let m = s .pre .2 in
+    ((s .pre .0, s .pre .1), (kept-error _ _ _ _ _ (m .recorded), m .error))
+
+moved-in-requires : tie.Need-moved-in-requires
+moved-in-requires c κs =
+    let s = c .before .before .before .before .before .before .before .before .before in
+    let m = s .pre .2 in
+    let v = s .args .reading .settings .mode1 .velocity in
+    simp (c .inputs-in .ensures, c .before .before .before .before .before .started .ensures)
+    (m .tuned, inputs-bounded m v, ready m _ (inputs-bounded m v))
+
+returns-2 : tie.Need-returns-2
+unfolding drivenOf movedOf
+returns-2 c =
+    let e = c .before .before .before .before in
+    c .moved-in .ensures
+    ∙ simp (c .before .inputs-in .ensures, e .before .before .started .ensures, ← e .before .is-manual .ensures, e .if1 .left)
 
 pub driven-spec : {M : Type 1} → statement M
-driven-spec = tie.close (tie.spec is-manual-requires started-requires past-for-requires moved-requires returns)
+driven-spec = tie.close (tie.spec started-requires is-manual-requires returns inputs-in-requires moved-in-requires returns-2)

@@ -18,10 +18,10 @@ error-requires c κs = search needs
 returns : tie.Need-returns
 unfolding errorIn
 returns c =
-    let o = c .before in
-    let q = o .before in
+    let q = c .before in
+    let o = q .before in
     got (c .error .result) (c .error .ok) ∙ c .error .ensures
-    ∙ simp (o .output-counts .ensures, q .in-deadband .ensures, q .before .before .pre .2)
+    ∙ simp (q .in-deadband .ensures, o .output-counts .ensures, o .before .before .pre .2)
 
 pub error-in-spec : {M : Type 1} → statement M
-error-in-spec = tie.close (tie.spec in-deadband-requires output-counts-requires error-requires returns)
+error-in-spec = tie.close (tie.spec output-counts-requires in-deadband-requires error-requires returns)

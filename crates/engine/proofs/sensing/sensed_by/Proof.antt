@@ -8,9 +8,6 @@ use Rattle.engine.proofs.sensing.sensed_by.Tie as tie
 pv-in-requires : tie.Need-pv-in-requires
 pv-in-requires c κs = search needs
 
-output-counts-requires : tie.Need-output-counts-requires
-output-counts-requires c κs = search needs
-
 enters-requires : tie.Need-enters-requires
 enters-requires c κs = search needs
 
@@ -29,6 +26,9 @@ profiled-requires c κs = search needs
 fault-after-requires : tie.Need-fault-after-requires
 fault-after-requires c κs = search needs
 
+output-counts-requires : tie.Need-output-counts-requires
+output-counts-requires c κs = search needs
+
 error-in-requires : tie.Need-error-in-requires
 error-in-requires c κs = search needs
 
@@ -38,7 +38,8 @@ mark-after-requires c κs = search needs
 returns : tie.Need-returns
 unfolding sensedOf
 returns c =
-    let f = c .before .before in
+    let o = c .before .before in
+    let f = o .before in
     let e = c .before .error-in in
     let p = f .before .before in
     let t = p .before in
@@ -48,14 +49,14 @@ returns c =
     (simp (
       c .mark-after .ensures,
       e .ensures,
+      o .output-counts .ensures,
       f .fault-after .ensures,
       p .profiled .ensures,
       t .target-of .ensures,
       t .before .runs-on .ensures,
       h .changes .ensures,
       n .enters .ensures,
-      n .before .output-counts .ensures,
-      n .before .before .pv-in .ensures,
+      n .before .pv-in .ensures,
     ))
 
 pub sensed-by-spec : {M : Type 1} → statement M
@@ -63,13 +64,13 @@ sensed-by-spec =
     tie.close
     (tie.spec
     pv-in-requires
-    output-counts-requires
     enters-requires
     changes-requires
     runs-on-requires
     target-of-requires
     profiled-requires
     fault-after-requires
+    output-counts-requires
     error-in-requires
     mark-after-requires
     returns)

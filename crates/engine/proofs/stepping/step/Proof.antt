@@ -1,6 +1,8 @@
 -- `engine::step` meets its contract, by what its callees ensure; that the terms can run follows from acceptance (`drivable`).
 use borrow.Author.Needs.{needs}
+use mathlib.Core.Path.{refl}
 use Rattle.table.specs.Modes.{isManual}
+use Rattle.engine.specs.Sensing.{sensedOf}
 use Rattle.engine.specs.Driving.{drivenOf}
 use Rattle.engine.specs.Steps.{stepOf}
 use Rattle.engine.specs.Steps.Laws.{drivable}
@@ -15,7 +17,8 @@ held-word-requires : tie.Need-held-word-requires
 held-word-requires c κs = search needs
 
 driven-requires : tie.Need-driven-requires
-driven-requires c κs = simp (c .held-word .ensures, c .before .sensed-by .ensures) (let p = c .before .before .before .before .pre in (p .0 .above, drivable (p .0) (p .1)))
+unfolding sensedOf
+driven-requires c κs = simp (c .held-word .ensures, c .before .sensed-by .ensures) (let p = c .before .before .before .before .pre in (p .0 .above, refl, drivable (p .0) (p .1)))
 
 words-after-requires : tie.Need-words-after-requires
 unfolding drivenOf

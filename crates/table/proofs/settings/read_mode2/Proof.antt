@@ -15,7 +15,7 @@ unused-bits-requires c κs = search needs
 
 returns : tie.Need-returns
 unfolding mode2Of
-returns c = rw (c .before .before .new .ensures, c .before .of-output .ensures, c .unused-bits .ensures)
+returns c = simp (c .before .of-output .ensures, c .before .before .new .ensures, c .unused-bits .ensures)
 
 pub read-mode2-spec : {M : Type 1} → statement M
 read-mode2-spec = tie.close (tie.spec new-requires of-output-requires unused-bits-requires returns)

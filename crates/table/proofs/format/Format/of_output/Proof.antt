@@ -1,4 +1,4 @@
--- `table::Format::of_output` meets its contract: by bit 10, the result of the call in each arm.
+-- `table::Format::of_output` meets its contract, by bit 10.
 use borrow.Author.Needs.{needs}
 use Rattle.table.proofs.format.Format.of_output.Statement.{statement}
 use Rattle.table.proofs.format.Format.of_output.Tie as tie
@@ -6,14 +6,11 @@ use Rattle.table.proofs.format.Format.of_output.Tie as tie
 by-requires : tie.Need-by-requires
 by-requires c κs = search needs
 
-new-requires : tie.Need-new-requires
-new-requires c κs = search needs
-
 returns : tie.Need-returns
 returns c = rw (c .by .ensures, c .before .if1 .taken)
 
 returns-2 : tie.Need-returns-2
-returns-2 c = rw (c .new .ensures, c .before .if1 .left)
+returns-2 c = rw (c .if1 .left)
 
 pub of-output-spec : {M : Type 1} → statement M
-of-output-spec = tie.close (tie.spec by-requires new-requires returns returns-2)
+of-output-spec = tie.close (tie.spec by-requires returns returns-2)
