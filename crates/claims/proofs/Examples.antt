@@ -2,6 +2,7 @@
 use mathlib.Core.Path.{_≡_}
 use mathlib.Core.List.{[], _∷_, _++_, map}
 use lib.ListN.{length, replicate}
+use Rattle.numbers.specs.Scales.{converted}
 use Rattle.numbers.specs.Roots.{rootOf}
 use Rattle.numbers.proofs.Examples as numbers
 use Rattle.reader.specs.File.{recordsOf}
@@ -23,6 +24,11 @@ use Rattle.session.proofs.Worked as worked
 pub roots-computed : map (λ (c : numbers.Case). rootOf (c .v)) numbers.cases ≡ map (λ (c : numbers.Case). c .root) numbers.cases
 roots-computed = numbers.computed
 
+-- M7: conversions between the engine's scales and others, with halves among them
+pub conversions-computed : map (λ (c : numbers.Conversion). converted (c .F) (c .G) (c .v)) numbers.conversions
+    ≡ map (λ (c : numbers.Conversion). c .count) numbers.conversions
+conversions-computed = numbers.computed-conversions
+
 -- the examples of N1 to N3
 pub records-read : recordsOf reader.file ≡ map (λ (c : reader.Case). c .item) reader.cases
 records-read = reader.all-cases .0
@@ -30,6 +36,12 @@ records-read = reader.all-cases .0
 -- N11: which loop is the major one
 pub majors-found : map (majorOf 2) table.pointers ≡ 1 ∷ 3 ∷ 16 ∷ 0 ∷ 0 ∷ 0 ∷ 0 ∷ 0 ∷ 0 ∷ 0 ∷ 0 ∷ []
 majors-found = table.majors
+
+-- M3: the two full scales of mode 2 words
+pub scales-read : map table.scales table.words
+    ≡ (4095 ∷ 4095 ∷ []) ∷ (32767 ∷ 32767 ∷ []) ∷ (65535 ∷ 65535 ∷ []) ∷ (65535 ∷ 65535 ∷ [])
+    ∷ (4095 ∷ 4095 ∷ []) ∷ (32767 ∷ 32767 ∷ []) ∷ (4095 ∷ 65535 ∷ []) ∷ (32767 ∷ 65535 ∷ []) ∷ (65535 ∷ 4095 ∷ []) ∷ (65535 ∷ 32767 ∷ []) ∷ []
+scales-read = table.full-scales
 
 -- N7 to N9 at their edges
 pub settings-judged : let cases = judging.cases ++ judging.tables in map judging.answer cases ≡ map (λ (c : judging.Case). c .number) cases
@@ -44,13 +56,13 @@ transfers-judged = judging.computed-handing
 pub profile-moved : profile.rows profile.fresh 0 profile.oven ≡ profile.expected profile.oven
 profile-moved = profile.computed
 
--- X1 to X3, one claim
-pub starred-cases : map starred.given starred.starred ≡ map (λ (x : starred.Case). x .answers) starred.starred
+-- X1 to X3, and the worked loop in two formats, one claim
+pub starred-cases : let cases = starred.starred ++ starred.formats in map starred.given cases ≡ map (λ (x : starred.Case). x .answers) cases
 starred-cases = starred.all-starred
 
 -- E3 to E5: the plain loop beside the engine
-pub plain-lists : map plain.from-reset (plain.loopA ∷ plain.counting ∷ plain.entered ∷ plain.cascaded ∷ [])
-    ≡ map (map plain.expected) (plain.loopA ∷ plain.counting ∷ plain.entered ∷ plain.cascaded ∷ [])
+pub plain-lists : map plain.from-reset (plain.loopA ∷ plain.counting ∷ plain.entered ∷ plain.cascaded ∷ plain.formats ∷ [])
+    ≡ map (map plain.expected) (plain.loopA ∷ plain.counting ∷ plain.entered ∷ plain.cascaded ∷ plain.formats ∷ [])
 plain-lists = plain.computed
 
 -- lists of calls on a desk, and A13, N11: a cascade

@@ -10,3 +10,5 @@ pub mod Demand1
 pub mod Demand2
 pub mod Demand3
 pub mod Transfers
+pub mod OneFormat
+pub mod Formats

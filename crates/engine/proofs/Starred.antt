@@ -1,10 +1,11 @@
--- The worked loop and what one changed setting makes of it (X1 to X3), one table and one claim, computed of the definitions.
+-- The worked loop and what one changed setting makes of it (X1 to X3), and the same in two formats (X6, M7), computed of the definitions.
 use Prim.Native.Nat.{ℕ}
 use mathlib.Core.Path.{_≡_, refl}
 use mathlib.Core.List.{List, [], _∷_, _++_, map}
 use lib.ListN.{set, replicate, getD}
 use Rattle.numbers.specs.Limits.{clampBy}
 use Rattle.numbers.specs.Rounding.{halfUp, halfAway}
+use Rattle.numbers.specs.Scales.{converted}
 use Rattle.numbers.specs.Roots.{rootWithin, rootOf}
 use Rattle.numbers.specs.Fractions.{over, negᶠ, roundTo}
 use Rattle.refusals.specs.declared.Answer.{Answer}
@@ -104,10 +105,32 @@ starred =
     ∷ ((begun 2 ++ (store 10 256 ∷ store 2 1500 ∷ sample 1010 ∷ [])) gives (3058 ∷ []) at (5 ∷ []))
     ∷ []
 
+-- the same begun with mode 2 as given, and another PV at the entry
+with : ℕ → ℕ → List Call
+with mode2 pv = store 1 mode2 ∷ store 5 2000 ∷ store 25 4095 ∷ store 7 256 ∷ store 8 512 ∷ store 9 4096 ∷ store 0 2 ∷ sample pv ∷ []
+
+-- lines 9 and 10 of X6
+line10 : List Call
+line10 = store 2 24000 ∷ sample 16000 ∷ []
+
+-- 16 bits in and 12 out: line 10 of X6; a deadband of 8,001 and of 8,000 counts of the input; 500 × 500 / 4,095 is 61; at a high limit of 2,000, where
+-- 16,000 and 16,008 are both 1,000. 12 bits in and 16 out: 1,000 and 1,500 are 16,004 and 24,005, e 8,001, and after two samples the bias is 5,200.4,
+-- the output 21,202.4. Then 12 bits in and out, the last PV 16,000 above them: D is 0.20 × (1,000 − 4,095)
+pub formats : List Case
+formats =
+    ((with 0x0600 16000 ++ line10) gives (24000 ∷ 16000 ∷ 2100 ∷ 3100 ∷ 2 ∷ []) at (2 ∷ 3 ∷ 4 ∷ 5 ∷ 6 ∷ []))
+    ∷ ((with 0x0600 16000 ++ (store 0 256 ∷ store 19 8001 ∷ []) ++ line10) gives (2000 ∷ []) at (5 ∷ []))
+    ∷ ((with 0x0600 16000 ++ (store 0 256 ∷ store 19 8000 ∷ []) ++ line10) gives (3100 ∷ []) at (5 ∷ []))
+    ∷ ((with 0x0600 16000 ++ (store 0 128 ∷ []) ++ line10) gives (2134 ∷ []) at (5 ∷ []))
+    ∷ ((with 0x0600 16000 ++ (store 25 2000 ∷ store 2 16008 ∷ sample 16000 ∷ [])) gives (2000 ∷ 0x0802 ∷ []) at (5 ∷ 6 ∷ []))
+    ∷ ((with 0x2400 1000 ++ (store 25 65535 ∷ store 2 1500 ∷ sample 1000 ∷ sample 1000 ∷ [])) gives (5200 ∷ 21202 ∷ []) at (4 ∷ 5 ∷ []))
+    ∷ ((with 0x0600 16000 ++ (store 10 0x0010 ∷ store 1 0x0400 ∷ store 2 1000 ∷ sample 1000 ∷ [])) gives (2000 ∷ 2619 ∷ []) at (4 ∷ 5 ∷ []))
+    ∷ []
+
 pub given : Case → List ℕ
 given x = let words = run reset (x .calls) .words in map (λ (i : ℕ). getD words i 0) (x .offsets)
 
--- each of the thirteen cases gives the numbers of X1 to X3
-pub all-starred : map given starred ≡ map (λ x. x .answers) starred
-unfolding faultOf pairAt anyBelow badDigitIn highEndIn programOf commandOf withHold handedOver joggedOf toward rampedTo rampedBy soakedBy movedBy workedBy advancedBy deviates flagsOf runsOn profiledOf sampledBy noProgram faultAfter clampBy halfUp halfAway rootWithin rootOf over negᶠ roundTo bcd badDigit modeAfter mode2Of badDigits tuningOf settingsOf remoteOf transfers readingOf inDeadband squaredOver errorOf outputCounts exactP exactI exactD exactTerms termsOf outsideOf positionOf velocityOf apart levelsOf statusOf resetRecord pvOf setpointOf changed entering heldOf startOf targetOf errorIn sensedOf keptIn pastOf positionInputs velocityInputs termsIn movedIn movedOf drivenOf outputWord biasWord statusWord writtenOf nextOf stepOf writtenTo sampled after run reset begun line9 low back _gives_at_ starred given
+-- each of the thirteen cases gives the numbers of X1 to X3, and each of the seven those of two formats
+pub all-starred : map given (starred ++ formats) ≡ map (λ x. x .answers) (starred ++ formats)
+unfolding faultOf pairAt anyBelow badDigitIn highEndIn programOf commandOf withHold handedOver joggedOf toward rampedTo rampedBy soakedBy movedBy workedBy advancedBy deviates flagsOf runsOn profiledOf sampledBy noProgram faultAfter clampBy halfUp halfAway rootWithin rootOf over negᶠ roundTo bcd badDigit modeAfter mode2Of badDigits tuningOf settingsOf remoteOf transfers readingOf inDeadband squaredOver errorOf outputCounts converted exactP exactI exactD exactTerms termsOf outsideOf positionOf velocityOf apart levelsOf statusOf resetRecord pvOf setpointOf changed entering heldOf startOf targetOf errorIn sensedOf keptIn pastOf positionInputs velocityInputs termsIn movedIn movedOf drivenOf outputWord biasWord statusWord writtenOf nextOf stepOf writtenTo sampled after run reset begun line9 low back _gives_at_ starred with line10 formats given
 all-starred = refl

@@ -52,6 +52,21 @@ cases =
     ∷ case (word 1 1) 0 8
     ∷ case (word 1 2) 32767 0
     ∷ case (word 1 514) 65535 0
+    -- bits 10, 12 and 13; 11 beside them; 12 and 13 without bit 10; limits against G, setpoint and raw PV against F
+    ∷ case (word 1 0x0400) 0 0
+    ∷ case (word 1 0x1400) 0 0
+    ∷ case (word 1 0x2400) 0 0
+    ∷ case (word 1 0x3400) 0 0
+    ∷ case (word 1 0x0800) 0 8
+    ∷ case (word 1 0x0C00) 0 8
+    ∷ case (word 1 0x2C00) 0 8
+    ∷ case (word 1 0x1000) 0 8
+    ∷ case (word 1 0x2000) 0 8
+    ∷ case (λ ws. word 1 0x0600 (word 25 4096 ws)) 0 8
+    ∷ case (λ ws. word 1 0x1600 (word 25 32767 ws)) 65535 0
+    ∷ case (λ ws. word 1 0x2400 (word 25 65535 ws)) 4095 0
+    ∷ case (λ ws. word 1 0x2400 (word 2 4096 ws)) 0 8
+    ∷ case (word 1 0x2400) 4096 9
     ∷ case (word 0 8192) 0 8
     ∷ case (λ ws. word 0 4096 (word 18 1 ws)) 0 0
     ∷ case (λ ws. word 0 8192 (word 18 200 ws)) 0 0

@@ -1,4 +1,4 @@
--- The plain loop computed beside the engine over four lists of accepted samples of loop 1, so that demand 3 is seen not to be empty.
+-- The plain loop computed beside the engine over five lists of accepted samples of loop 1, so that demand 3 is seen not to be empty.
 use Prim.Native.Nat.{ℕ}
 use mathlib.Core.Path.{_≡_, refl}
 use mathlib.Core.Bool.{Bool, true, not, _&&_}
@@ -7,6 +7,7 @@ use lib.ListN.{getD, set, replicate}
 use lib.IntN.{pos}
 use Rattle.numbers.specs.Limits.{clampBy}
 use Rattle.numbers.specs.Rounding.{halfUp, halfAway}
+use Rattle.numbers.specs.Scales.{converted}
 use Rattle.numbers.specs.Roots.{rootWithin, rootOf}
 use Rattle.numbers.specs.Fractions.{Fraction, over, whole, _+ᶠ_, negᶠ, ltᶠ, roundTo}
 use Rattle.table.specs.Words.{bcd, badDigit}
@@ -133,6 +134,21 @@ cascaded =
     ∷ record { write = λ ws. set ws 40 1400; raw = 1010; word = 1194; n = 3; exact = over (pos 167126) 140 }
     ∷ []
 
-pub computed : map from-reset (loopA ∷ counting ∷ entered ∷ cascaded ∷ []) ≡ map (map expected) (loopA ∷ counting ∷ entered ∷ cascaded ∷ [])
-unfolding faultOf pairAt anyBelow badDigitIn highEndIn programOf commandOf withHold handedOver joggedOf toward rampedTo rampedBy soakedBy profileMoved workedBy advancedBy deviates flagsOf runsOn profiledOf sampledBy noProgram faultAfter clampBy halfUp halfAway rootWithin rootOf over _+ᶠ_ negᶠ ltᶠ roundTo bcd badDigit modeAfter mode2Of badDigits tuningOf settingsOf remoteOf transfers readingOf inDeadband squaredOver errorOf outputCounts exactP exactI exactD exactTerms termsOf outsideOf positionOf velocityOf apart levelsOf statusOf resetRecord pvOf setpointOf changed entering heldOf startOf targetOf errorIn sensedOf keptIn pastOf positionInputs velocityInputs termsIn movedIn movedOf drivenOf outputWord biasWord statusWord writtenOf nextOf stepOf writtenTo exactSum exactOutput exactBias begun countAfter movedBy plainAfter same rows expected from-reset counts kept worked loopA mode counting settled entered followed cascaded
+-- ---- the same in two formats (M7): 16 bits in and 12 out; 16 out; 12 in and out, with a last PV above F
+-- 1: 24,000 and 16,000 become 1,500 and 1,000: 8,320/7 as before
+-- 2: 16,100 becomes 1,006; e 494, P 163.02, D 0.99, I 8,151/350, B 7,165/7: 1,208.89
+-- 3: nothing changes scale; e 7,900, P 2,607, D 0, I 2,607/7, B 52,343/50: 1,409,201/350
+-- 4: the last PV 16,100 becomes 4,095; e 1,000, P 330, D −345.675, I 330/7, B 496,751/350: 2,998,949/1,400
+
+pub formats : List Sample
+formats =
+    record { write = λ ws. set (set (followed ws) 1 0x0600) 40 24000; raw = 16000; word = 1189; n = 1; exact = over (pos 8320) 7 }
+    ∷ record { write = kept; raw = 16100; word = 1209; n = 2; exact = over (pos 120889) 100 }
+    ∷ record { write = λ ws. set (set ws 1 0x2600) 25 65535; raw = 16100; word = 4026; n = 3; exact = over (pos 1409201) 350 }
+    ∷ record { write = λ ws. set (set (set ws 1 0x0400) 25 4095) 40 3000; raw = 2000; word = 2142; n = 4; exact = over (pos 2998949) 1400 }
+    ∷ []
+
+pub computed : map from-reset (loopA ∷ counting ∷ entered ∷ cascaded ∷ formats ∷ [])
+    ≡ map (map expected) (loopA ∷ counting ∷ entered ∷ cascaded ∷ formats ∷ [])
+unfolding faultOf pairAt anyBelow badDigitIn highEndIn programOf commandOf withHold handedOver joggedOf toward rampedTo rampedBy soakedBy profileMoved workedBy advancedBy deviates flagsOf runsOn profiledOf sampledBy noProgram faultAfter clampBy halfUp halfAway rootWithin rootOf over _+ᶠ_ negᶠ ltᶠ roundTo bcd badDigit modeAfter mode2Of badDigits tuningOf settingsOf remoteOf transfers readingOf inDeadband squaredOver errorOf outputCounts converted exactP exactI exactD exactTerms termsOf outsideOf positionOf velocityOf apart levelsOf statusOf resetRecord pvOf setpointOf changed entering heldOf startOf targetOf errorIn sensedOf keptIn pastOf positionInputs velocityInputs termsIn movedIn movedOf drivenOf outputWord biasWord statusWord writtenOf nextOf stepOf writtenTo exactSum exactOutput exactBias begun countAfter movedBy plainAfter same rows expected from-reset counts kept worked loopA mode counting settled entered followed cascaded formats
 computed = refl

@@ -1,0 +1,271 @@
+-- What is promised of an output with a format of its own, proved.
+use Prim.Native.Nat.{ℕ, zero, suc, _+_, _*_, _≤_, _<_}
+use native.Mathlib.Omega.{arith}
+use mathlib.Core.Path.{_≡_, refl, sym, ap, subst, _∙_}
+use mathlib.Core.Bool.{Bool, true, false, cond, not, _&&_, _||_}
+use mathlib.Core.List.{List, [], _∷_}
+use lib.Dec.{T, ltb, eqb, lit<}
+use lib.IntN.{ℤ, pos, natAbs, _-ℤ_}
+use lib.Signed.{_≤ℤ_}
+use lib.ListN.{getD}
+use borrow.Author.Tests.{lt-ltb, ltb-false}
+use Rattle.numbers.specs.Whole.{linear, abs}
+use Rattle.numbers.specs.Limits.{clampℤ}
+use Rattle.numbers.specs.Limits.Laws.{clamp-low, clamp-high}
+use Rattle.numbers.specs.Distances.{apart}
+use Rattle.numbers.specs.Rounding.{unitsOf}
+use Rattle.numbers.specs.Rounding.Laws.{half-up-high}
+use Rattle.numbers.specs.Fractions.{Fraction}
+use Rattle.numbers.specs.Scales.{converted}
+use Rattle.numbers.specs.Scales.Laws.{converted-high, converted-mono, converted-tie, converted-near, converted-zero, converted-full, converted-same, converted-no-tie}
+use Rattle.refusals.specs.Refusals.{numberOf}
+use Rattle.refusals.specs.Refusals.Laws.{accepted-only}
+use Rattle.table.specs.declared.settings.Mode2.{Mode2}
+use Rattle.table.specs.declared.reading.Reading.{Reading}
+use Rattle.table.specs.Words.{bit, formatBy, baseOf, blockAt}
+use Rattle.table.specs.Words.Laws.{block-at, none-at, or-false}
+use Rattle.table.specs.Settings.{unusedBits, mode2Of, settingsOf}
+use Rattle.table.specs.Modes.{isManual}
+use Rattle.table.specs.Reading.{readingOf}
+use Rattle.table.specs.Reading.Laws.{limit-low, limit-high, output-scale}
+use Rattle.control.specs.Counts.{outputCounts}
+use Rattle.control.specs.Errors.{inDeadband, squaredOver, errorOf}
+use Rattle.control.specs.Errors.Laws.{squared-toward-zero}
+use Rattle.alarms.specs.declared.status.Seen.{Seen}
+use Rattle.alarms.specs.Status.{statusOf, bitsOf}
+use Rattle.alarms.specs.Status.Laws.{status-bit}
+use Rattle.carried.specs.declared.record.State.{State}
+use Rattle.carried.specs.Layout.{recordAt}
+use Rattle.judging.specs.Judging.Laws.{limits-good}
+use Rattle.engine.specs.declared.sensing.Sensed.{Sensed}
+use Rattle.engine.specs.Sensing.{errorIn, sensedOf}
+use Rattle.engine.specs.Driving.{heldOf, startOf, keptIn, pastOf, movedOf, drivenOf}
+use Rattle.engine.specs.Writing.{outputWord, biasWord, statusWord, writtenOf, nextOf}
+use Rattle.engine.specs.Steps.{stepOf}
+use Rattle.engine.specs.Steps.Laws.{drivable, sensed-scaled}
+use Rattle.engine.proofs.Limits.{word-inside}
+use Rattle.plain.specs.Plain.{Plain, countAfter, movedBy, plainAfter}
+use Rattle.plain.specs.Plain.Laws.{sample-good}
+use Rattle.desk.specs.Desk.{Desk, readingAt, stepAt, sampleAnswer, sampleLeft}
+use Rattle.desk.specs.Desk.Laws.{sampled}
+use Rattle.claims.specs.Calls.{Settled}
+use Rattle.claims.specs.Formats.{Conversion, wordOf, inputFull, outputFull, fullBy, sensedAt, Readable, Refused, Counted, Errors, Compared, Formats}
+use Rattle.claims.proofs.Calls.{called}
+use Rattle.claims.proofs.Demand2.{demand-2}
+
+conversion : (F G : ℕ) → 0 < F → 0 < G → Conversion F G
+conversion F G some other = record {
+  near = λ v h. converted-near some G h;
+  half = λ v k h e. converted-tie some G h k e;
+  zero = converted-zero some G;
+  full = λ v h. converted-full some G h;
+  high = λ v. converted-high F G v;
+  order = λ v w h. converted-mono F G h;
+}
+
+scale-by : (sixteen fifteen : Bool) → formatBy sixteen fifteen .scale ≡ fullBy sixteen fifteen
+scale-by true fifteen = refl
+scale-by false true = refl
+scale-by false false = refl
+
+-- ---- what is read of words 0, 1, 19, 24 and 25
+
+module _ (d : Desk) (k : ℕ) where
+  abbrev block : List ℕ
+  block = blockAt (d .words) (baseOf k)
+
+  at : (i : ℕ) → i < 32 → getD block i 0 ≡ wordOf d k i
+  at i h = block-at (d .words) (baseOf k) i h
+
+  mode2 : readingAt d k .settings .mode2 ≡ mode2Of (wordOf d k 1)
+  unfolding readingOf settingsOf
+  mode2 = ap mode2Of (at 1 (lit< tt))
+
+  input : inputFull d k ≡ fullBy (bit 9 (wordOf d k 1)) (bit 1 (wordOf d k 1))
+  unfolding mode2Of
+  input = ap (λ (m : Mode2). m .input .scale) mode2 ∙ scale-by (bit 9 (wordOf d k 1)) (bit 1 (wordOf d k 1))
+
+  own : bit 10 (wordOf d k 1) ≡ true → outputFull d k ≡ fullBy (bit 13 (wordOf d k 1)) (bit 12 (wordOf d k 1))
+  unfolding mode2Of
+  own on = ap (λ (m : Mode2). m .output .scale) mode2 ∙ rw on (scale-by (bit 13 (wordOf d k 1)) (bit 12 (wordOf d k 1)))
+
+  one : bit 10 (wordOf d k 1) ≡ false → outputFull d k ≡ inputFull d k
+  unfolding mode2Of
+  one off =
+      let same : mode2Of (wordOf d k 1) .output .scale ≡ mode2Of (wordOf d k 1) .input .scale = rw off in
+      ap (λ (m : Mode2). m .output .scale) mode2 ∙ same ∙ sym (ap (λ (m : Mode2). m .input .scale) mode2)
+
+  separate : readingAt d k .settings .mode2 .separate ≡ bit 10 (wordOf d k 1)
+  unfolding mode2Of
+  separate = ap (λ (m : Mode2). m .separate) mode2
+
+  unused : readingAt d k .settings .mode2 .unused ≡ unusedBits (wordOf d k 1)
+  unfolding mode2Of
+  unused = ap (λ (m : Mode2). m .unused) mode2
+
+  banded : readingAt d k .settings .mode1 .deadband ≡ bit 8 (wordOf d k 0)
+  unfolding readingOf settingsOf
+  banded = rw (at 0 (lit< tt))
+
+  squares : readingAt d k .settings .mode1 .squared ≡ bit 7 (wordOf d k 0)
+  unfolding readingOf settingsOf
+  squares = rw (at 0 (lit< tt))
+
+  deadband : readingAt d k .settings .deadband ≡ wordOf d k 19
+  unfolding readingOf settingsOf
+  deadband = at 19 (lit< tt)
+
+  low : readingAt d k .settings .limits .low ≡ wordOf d k 24
+  low = let c = recordAt (d .numbers) k .state in limit-low (d .words) k (c .mode) (c .profile .segment)
+
+  high : readingAt d k .settings .limits .high ≡ wordOf d k 25
+  high = let c = recordAt (d .numbers) k .state in limit-high (d .words) k (c .mode) (c .profile .segment)
+
+  -- with bit 10 on every count is converted
+  counts : bit 10 (wordOf d k 1) ≡ true → (v : ℕ) → outputCounts (readingAt d k .settings .mode2) v ≡ converted (inputFull d k) (outputFull d k) v
+  unfolding outputCounts
+  counts on v = rw (separate, on)
+
+-- ---- what is refused
+
+module _ (d : Desk) (k raw : ℕ) (r : Readable d k) where
+  eight : (Settled (readingAt d k) → ⊥) → numberOf (sampleAnswer d k raw) ≡ 8
+  eight wrong = called .rows d k raw (r .memory) .reading (r .loop .0) (r .loop .1) (r .carried) .1 (r .digits) wrong
+
+  -- what is settled has no bit on that has to be off
+  abbrev tests : List Bool
+  tests =
+      let w = wordOf d k 1 in
+      bit 0 w ∷ bit 2 w ∷ bit 3 w ∷ bit 5 w ∷ bit 6 w ∷ bit 7 w ∷ bit 11 w ∷ bit 14 w ∷ bit 15 w ∷ (not (bit 10 w) && (bit 12 w || bit 13 w)) ∷ []
+
+  off : Settled (readingAt d k) → (i : ℕ) → getD tests i false ≡ false
+  off s i =
+      let b = readingAt d k .settings .mode1 in
+      let h = readingAt d k .settings .alarms .hysteresis in
+      let three = or-false (((b .velocity && b .bumpless) || b .limited) || readingAt d k .settings .mode2 .unused) ((b .level || b .deviation) && (ltb h 1 || ltb 200 h)) (s .modes) .0 in
+      let two = or-false ((b .velocity && b .bumpless) || b .limited) (readingAt d k .settings .mode2 .unused) three .1 in
+      none-at tests (sym (unused d k) ∙ two) i
+
+  refused : Refused d k raw
+  refused = record {
+    eleven = λ on. eight (λ s. subst T (sym on ∙ off s 6) tt);
+    stray = λ none some. eight (λ s. let both : (not (bit 10 (wordOf d k 1)) && (bit 12 (wordOf d k 1) || bit 13 (wordOf d k 1))) ≡ true = rw (none, some) in
+        subst T (sym both ∙ off s 9) tt);
+    limits = λ h. eight (λ s. let l = limits-good (readingAt d k .settings .limits) (outputFull d k) (s .limits) .1 in omega (arith, high d k));
+  }
+
+-- ---- in which counts an accepted sample's numbers are
+
+bias-high : (G : ℕ) (stored : ℕ) (bias : ℤ) → biasWord false stored G bias ≤ G
+unfolding biasWord
+bias-high G stored bias =
+    let z = clampℤ bias (pos 0) (pos (unitsOf G)) in
+    let order : pos 0 ≤ℤ pos (unitsOf G) = omega (arith, linear) in
+    half-up-high {d = 262144} (lit< tt) G (omega (arith, linear, abs z, clamp-low order bias, clamp-high order bias))
+
+counted : (d : Desk) (k raw : ℕ) → numberOf (sampleAnswer d k raw) ≡ 0 → Counted d k raw
+unfolding stepOf writtenOf nextOf drivenOf
+counted d k raw e =
+    let done = demand-2 .exact d k raw e in
+    let s = sampled d k raw (accepted-only (sampleAnswer d k raw) e) in
+    let c = recordAt (d .numbers) k in
+    let scaled = sensed-scaled (s .reading) (c .state) (s .carried .profile) in
+    let inside = word-inside (isManual (readingAt d k .mode)) (drivable (s .reading) (s .carried)) in
+    record {
+      setpoint = rw (done .setpoint) (scaled .setpoint);
+      pv = rw (done .pv) (scaled .pv);
+      output = rw (done .output) (omega (arith, inside .high, s .reading .high));
+      error = scaled .error;
+      bias = λ automatic position. rw (done .bias) (rw (automatic, position) (bias-high (outputFull d k) _ _));
+    }
+
+-- ---- the error, and what the terms compare, with bit 10 on
+
+error-is : (r : Reading) (state : State) (raw : ℕ) → r .settings .mode2 .separate ≡ true → let s = r .settings in
+    let x = sensedOf r state raw in
+    let to : ℕ → ℕ = converted (s .mode2 .input .scale) (s .mode2 .output .scale) in
+    x .error
+    ≡ errorOf (s .mode1 .deadband && ltb (apart (x .setpoint) (x .pv)) (s .deadband)) (s .mode1 .squared) (s .mode2 .output .scale) (to (x .setpoint)) (to (x .pv))
+unfolding sensedOf errorIn inDeadband outputCounts
+error-is r state raw on = rw on
+
+module _ (d : Desk) (k raw : ℕ) (on : bit 10 (wordOf d k 1) ≡ true) where
+  abbrev x : Sensed
+  x = sensedAt d k raw
+
+  error : x .error ≡ errorOf (bit 8 (wordOf d k 0) && ltb (apart (x .setpoint) (x .pv)) (wordOf d k 19)) (bit 7 (wordOf d k 0)) (outputFull d k)
+      (converted (inputFull d k) (outputFull d k) (x .setpoint)) (converted (inputFull d k) (outputFull d k) (x .pv))
+  error = error-is (readingAt d k) (recordAt (d .numbers) k .state) raw (separate d k ∙ on) ∙ rw (banded d k, squares d k, deadband d k)
+
+  pv : x .converted ≡ converted (inputFull d k) (outputFull d k) (x .pv)
+  unfolding sensedOf
+  pv = counts d k on (x .pv)
+
+  errors : Errors d k raw
+  unfolding errorOf
+  errors = record {
+    quiet = λ band near. error ∙ rw (band, lt-ltb _ _ near);
+    plain = λ loud off. error ∙ rw (loud, off);
+    squared = λ loud square. let G = outputFull d k in
+        let e = pos (converted (inputFull d k) G (x .setpoint)) -ℤ pos (converted (inputFull d k) G (x .pv)) in
+        let c = recordAt (d .numbers) k .state in
+        let some : 0 < G = omega (arith, output-scale (d .words) k (c .mode) (c .profile .segment) .low) in
+        let is : x .error ≡ squaredOver e G = error ∙ rw (loud, square) in
+        rw is (squared-toward-zero e some);
+  }
+
+  compared : Compared d k raw
+  unfolding stepOf nextOf drivenOf startOf pastOf keptIn
+  compared = record {
+    fresh = λ new. rw (new, pv);
+    later = λ old. rw (old, pv, counts d k on (recordAt (d .numbers) k .past .last), counts d k on (recordAt (d .numbers) k .past .prior), or-false (not (recordAt (d .numbers) k .sampled)) (x .entry) old .1);
+  }
+
+-- ---- what is recorded, the status, and the plain loop
+
+recorded : (d : Desk) (k raw : ℕ) → let c = recordAt (d .numbers) k in
+    let next = stepAt d k raw .carried .past in
+    (next .last ≡ sensedAt d k raw .pv) × (next .prior ≡ cond (c .sampled) (c .past .last) (sensedAt d k raw .pv)) × (next .error ≡ sensedAt d k raw .error)
+unfolding stepOf nextOf
+recorded d k raw = (refl, refl, refl)
+
+status : (d : Desk) (k raw : ℕ) → numberOf (sampleAnswer d k raw) ≡ 0 → let after : ℕ → ℕ = wordOf (sampleLeft d k raw) k in
+    bit 11 (after 6)
+    ≡ (not (isManual (readingAt d k .mode)) && (eqb (after 5) (wordOf d k 24) || eqb (after 5) (wordOf d k 25)) && not (eqb (after 3) (after 2)))
+unfolding stepOf writtenOf statusWord statusOf
+status d k raw e =
+    let done = demand-2 .exact d k raw e in
+    let r = readingAt d k in
+    let s = r .settings in
+    let c = recordAt (d .numbers) k in
+    let x = sensedAt d k raw in
+    let seen : Seen = record { pv = x .pv; setpoint = x .setpoint; last = c .past .last; sampled = c .sampled; output = stepAt d k raw .written .output } in
+    rw (done .status, done .output, done .pv, done .setpoint, ← low d k, ← high d k)
+    (status-bit (bitsOf (statusOf (r .mode) (s .mode1) (s .alarms) (s .limits) (s .stored .status) seen)) 11)
+
+kept-pv : (n : ℕ) (q : Plain) (r : Reading) (x : Sensed) (start : Fraction) (last : ℕ) → movedBy n q r x start last .last ≡ x .pv
+unfolding movedBy
+kept-pv zero q r x start last = refl
+kept-pv (suc n) q r x start last = refl
+
+keeps : (r : Reading) (raw : ℕ) (q : Plain) → plainAfter q r raw .last ≡ sensedOf r (q .state) raw .pv
+unfolding plainAfter
+keeps r raw q = kept-pv _ _ _ _ _ _
+
+pub formats : Formats
+formats = record {
+  conversion = conversion;
+  odd = converted-no-tie;
+  same = λ F v some h. converted-same some h;
+  input = input;
+  own = own;
+  one = one;
+  refused = refused;
+  counted = counted;
+  errors = errors;
+  compared = compared;
+  records = recorded;
+  status = status;
+  accurate = λ r c raw q u g t. sample-good u g q t .0;
+  keeps = keeps;
+}

@@ -1,0 +1,142 @@
+-- With bit 10 of mode 2 off every result is what it was, proved.
+use Prim.Native.Nat.{ℕ, _+_}
+use mathlib.Core.Path.{_≡_, refl, sym, ap, _∙_}
+use mathlib.Core.Bool.{Bool, true, false, cond, not, _&&_, _||_}
+use mathlib.Core.List.{List, [], _∷_}
+use lib.Dec.{ltb, lit<}
+use lib.IntN.{ℤ, pos, natAbs, _-ℤ_}
+use lib.ListN.{getD}
+use Rattle.numbers.specs.Distances.{apart}
+use Rattle.numbers.specs.Distances.Laws.{apart-is}
+use Rattle.numbers.specs.Fractions.{whole}
+use Rattle.table.specs.declared.format.Format.{Format}
+use Rattle.table.specs.declared.settings.Mode2.{Mode2}
+use Rattle.table.specs.declared.settings.Settings.{Settings}
+use Rattle.table.specs.declared.reading.Reading.{Reading}
+use Rattle.table.specs.Words.{bit, any, baseOf, blockAt}
+use Rattle.table.specs.Words.Laws.{block-at}
+use Rattle.table.specs.Settings.{mode2Of, settingsOf}
+use Rattle.table.specs.Modes.{isManual}
+use Rattle.table.specs.Reading.{readingOf}
+use Rattle.control.specs.Counts.{outputCounts}
+use Rattle.control.specs.Counts.Laws.{counts-same}
+use Rattle.control.specs.Errors.{inDeadband, squaredOver, errorOf}
+use Rattle.carried.specs.declared.record.State.{State}
+use Rattle.carried.specs.declared.record.Past.{Past}
+use Rattle.carried.specs.declared.record.Carried.{Carried}
+use Rattle.carried.specs.Layout.{recordAt}
+use Rattle.engine.specs.declared.sensing.Sensed.{Sensed}
+use Rattle.engine.specs.Sensing.{errorIn, sensedOf}
+use Rattle.engine.specs.Driving.{heldOf, startOf, pastOf, movedOf, drivenOf}
+use Rattle.engine.specs.Driving.Laws.{kept-same}
+use Rattle.engine.specs.Writing.{writtenOf, nextOf}
+use Rattle.engine.specs.Steps.{stepOf}
+use Rattle.plain.specs.Plain.{Plain, countAfter, movedBy, plainAfter}
+use Rattle.desk.specs.Desk.{Desk, readingAt, stepAt}
+use Rattle.claims.specs.OneFormat.{mode2Then, errorThen, sensedThen, pastThen, drivenThen, stepThen, plainThen, OneFormat}
+
+-- ---- what is read
+
+-- with bit 10 off the bits that have to be off are the twelve of then
+stray : (a b11 b12 b13 b14 b15 : Bool)
+    → ((((a || b11) || b14) || b15) || (b12 || b13)) ≡ ((((((a || false) || b11) || b12) || b13) || b14) || b15)
+stray true b11 b12 b13 b14 b15 = refl
+stray false true b12 b13 b14 b15 = refl
+stray false false b12 b13 true b15 = go b12 b13
+  where
+    go : (x y : Bool) → true ≡ ((x || y) || true) || b15
+    go true y = refl
+    go false true = refl
+    go false false = refl
+stray false false b12 b13 false true = go b12 b13
+  where
+    go : (x y : Bool) → true ≡ ((x || y) || false) || true
+    go true y = refl
+    go false true = refl
+    go false false = refl
+stray false false true b13 false false = refl
+stray false false false true false false = refl
+stray false false false false false false = refl
+
+mode2-read : (word : ℕ) → bit 10 word ≡ false → mode2Of word ≡ mode2Then word
+unfolding mode2Of
+mode2-read word off =
+    let before = any (bit 0 word ∷ bit 2 word ∷ bit 3 word ∷ bit 5 word ∷ bit 6 word ∷ bit 7 word ∷ []) in
+    rw off (λ i. record {
+      input = mode2Then word .input;
+      output = mode2Then word .input;
+      separate = false;
+      minutes = bit 4 word;
+      unused = stray before (bit 11 word) (bit 12 word) (bit 13 word) (bit 14 word) (bit 15 word) i;
+    })
+
+module _ (d : Desk) (k : ℕ) (off : bit 10 (getD (d .words) (baseOf k + 1) 0) ≡ false) where
+  read : readingAt d k .settings .mode2 ≡ mode2Then (getD (d .words) (baseOf k + 1) 0)
+  unfolding readingOf settingsOf
+  read = ap mode2Of (block-at (d .words) (baseOf k) 1 (lit< tt)) ∙ mode2-read (getD (d .words) (baseOf k + 1) 0) off
+
+-- ---- what is sensed, what moves the output, and what is written
+
+-- mode 2 of then: nothing is separate, and there is one full scale
+record Then (m : Mode2) : Type 0 where
+  separate : m .separate ≡ false
+  scale : m .output .scale ≡ m .input .scale
+
+as-then : {m : Mode2} (word : ℕ) → m ≡ mode2Then word → Then m
+as-then word e = record {
+  separate = ap (λ (n : Mode2). n .separate) e;
+  scale = ap (λ (n : Mode2). n .output .scale) e ∙ sym (ap (λ (n : Mode2). n .input .scale) e);
+}
+
+error-then : (s : Settings) → Then (s .mode2) → (target p : ℕ) → errorIn s target p ≡ errorThen s target p
+unfolding errorIn errorOf inDeadband
+error-then s t target p = rw (counts-same (s .mode2) (t .separate) target, counts-same (s .mode2) (t .separate) p, t .scale, apart-is target p)
+
+sensed-then : (r : Reading) → Then (r .settings .mode2) → (state : State) (raw : ℕ) → sensedOf r state raw ≡ sensedThen r state raw
+unfolding sensedOf
+sensed-then r t state raw =
+    let x = sensedOf r state raw in
+    λ i. record {
+      pv = x .pv;
+      converted = counts-same (r .settings .mode2) (t .separate) (x .pv) i;
+      entry = x .entry;
+      setpoint = x .setpoint;
+      error = error-then (r .settings) t (x .setpoint) (x .pv) i;
+      flags = x .flags;
+      fault = x .fault;
+      state = x .state;
+    }
+
+past-then : (m : Mode2) → Then m → (fresh : Bool) (kept : Past) (p : ℕ) (e : ℤ) → pastOf m fresh kept p e ≡ pastThen fresh kept p e
+unfolding pastOf
+past-then m t fresh kept p e = rw (kept-same m (t .separate) kept)
+
+driven-then : (r : Reading) → Then (r .settings .mode2) → (c : Carried) (state : State) (raw held : ℕ)
+    → let x = sensedThen r state raw in drivenOf r c x held ≡ drivenThen r c x held
+unfolding drivenOf
+driven-then r t c state raw held =
+    let x = sensedThen r state raw in
+    ap (λ (past : Past). movedOf (r .settings) (isManual (r .mode)) (startOf (x .entry) held (c .drive)) past (x .pv) (x .error))
+    (past-then (r .settings .mode2) t (not (c .sampled) || x .entry) (c .past) (x .pv) (x .error))
+
+step-then : (r : Reading) → Then (r .settings .mode2) → (c : Carried) (raw : ℕ) → stepOf r c raw ≡ stepThen r c raw
+unfolding stepOf
+step-then r t c raw =
+    let held = heldOf (r .settings) in
+    ap (λ (x : Sensed). record { written = writtenOf r c x held (drivenOf r c x held); carried = nextOf c x (drivenOf r c x held) }) (sensed-then r t (c .state) raw)
+    ∙ ap (λ drive. record { written = writtenOf r c (sensedThen r (c .state) raw) held drive; carried = nextOf c (sensedThen r (c .state) raw) drive })
+    (driven-then r t c (c .state) raw held)
+
+-- ---- the plain loop
+
+plain-then : (r : Reading) → Then (r .settings .mode2) → (q : Plain) (raw : ℕ) → plainAfter q r raw ≡ plainThen q r raw
+unfolding plainAfter
+plain-then r t q raw =
+    rw (sensed-then r t (q .state) raw, counts-same (r .settings .mode2) (t .separate) (q .last)) refl
+
+pub one-format : OneFormat
+one-format = record {
+  mode2 = read;
+  step = λ d k raw off. step-then (readingAt d k) (as-then (getD (d .words) (baseOf k + 1) 0) (read d k off)) (recordAt (d .numbers) k) raw;
+  plain = λ r word e q raw. plain-then r (as-then word e) q raw;
+}

@@ -1,0 +1,136 @@
+-- What is promised of an output with a format of its own (M3, M7): the two full scales, what is refused by them, in which counts each number is, how
+-- a count is converted, for any two full scales, and which numbers are.
+use Prim.Native.Nat.{ℕ, _+_, _*_, _≤_, _<_}
+use mathlib.Core.Path.{_≡_}
+use mathlib.Core.Bool.{Bool, true, false, cond, not, _&&_, _||_}
+use lib.Dec.{ltb, eqb}
+use lib.IntN.{pos, natAbs, _-ℤ_}
+use lib.ListN.{getD}
+use Rattle.numbers.specs.Distances.{apart}
+use Rattle.numbers.specs.Rounding.{withSign}
+use Rattle.numbers.specs.Scales.{converted}
+use Rattle.refusals.specs.Refusals.{numberOf}
+use Rattle.table.specs.declared.reading.Reading.{Reading}
+use Rattle.table.specs.Words.{bit, baseOf}
+use Rattle.table.specs.Modes.{isManual}
+use Rattle.carried.specs.declared.record.Carried.{Carried}
+use Rattle.carried.specs.Layout.{slotOf, outOfRange, numbersAt, recordAt}
+use Rattle.carried.specs.Ranged.{Ranged}
+use Rattle.engine.specs.declared.sensing.Sensed.{Sensed}
+use Rattle.engine.specs.Sensing.{sensedOf}
+use Rattle.engine.specs.Driving.{heldOf, startOf, movedOf}
+use Rattle.engine.specs.Steps.{stepOf}
+use Rattle.engine.specs.Premises.{Usable}
+use Rattle.plain.specs.Plain.{Plain, plainAfter}
+use Rattle.plain.specs.Plain.Laws.{Tied, Good}
+use Rattle.desk.specs.Desk.{Desk, fittingOf, readingAt, stepAt, sampleAnswer, sampleLeft}
+
+-- M7: a count v of full scale F converted to full scale G, F and G any two above 0
+pub record Conversion (F G : ℕ) : Type 0 where
+  -- up to F it is within half a count of v × G / F, and a half goes up
+  pub near : (v : ℕ) → v ≤ F → (2 * (F * converted F G v) ≤ 2 * (v * G) + F) × (2 * (v * G) < 2 * (F * converted F G v) + F)
+  pub half : (v k : ℕ) → v ≤ F → 2 * (v * G) ≡ (2 * k + 1) * F → converted F G v ≡ k + 1
+  -- 0 gives 0, F and all above it give G, and nothing gives more
+  pub zero : converted F G 0 ≡ 0
+  pub full : (v : ℕ) → F ≤ v → converted F G v ≡ G
+  pub high : (v : ℕ) → converted F G v ≤ G
+  -- a higher count never gives less
+  pub order : (v w : ℕ) → v ≤ w → converted F G v ≤ converted F G w
+
+-- word i of loop k; M3: F and G of loop k, and a full scale by its two bits
+abbrev pub wordOf : Desk → ℕ → ℕ → ℕ
+wordOf d k i = getD (d .words) (baseOf k + i) 0
+
+abbrev pub inputFull : Desk → ℕ → ℕ
+inputFull d k = readingAt d k .settings .mode2 .input .scale
+
+abbrev pub outputFull : Desk → ℕ → ℕ
+outputFull d k = readingAt d k .settings .mode2 .output .scale
+
+abbrev pub fullBy : Bool → Bool → ℕ
+fullBy sixteen fifteen = cond sixteen 65535 (cond fifteen 32767 4095)
+
+-- what a sample of loop k senses
+abbrev pub sensedAt : Desk → ℕ → ℕ → Sensed
+sensedAt d k raw = sensedOf (readingAt d k) (recordAt (d .numbers) k .state) raw
+
+-- O3: none of N4, N5 and N7 holds
+pub record Readable (d : Desk) (k : ℕ) : Type 0 where
+  pub memory : fittingOf d ≡ true
+  pub loop : (1 ≤ k) × (k ≤ 16)
+  pub carried : outOfRange (numbersAt (d .numbers) (slotOf k)) ≡ false
+  pub digits : (readingAt d k .settings .baddigit || readingAt d k .program .baddigit) ≡ false
+
+-- N8: bit 11; bits 12 and 13 without bit 10; a high output limit above G
+pub record Refused (d : Desk) (k raw : ℕ) : Type 0 where
+  pub eleven : bit 11 (wordOf d k 1) ≡ true → numberOf (sampleAnswer d k raw) ≡ 8
+  pub stray : bit 10 (wordOf d k 1) ≡ false → (bit 12 (wordOf d k 1) || bit 13 (wordOf d k 1)) ≡ true → numberOf (sampleAnswer d k raw) ≡ 8
+  pub limits : outputFull d k < wordOf d k 25 → numberOf (sampleAnswer d k raw) ≡ 8
+
+-- M3, M7: after an accepted sample, setpoint and PV are counts of the input, the output and the error counts of the output, and so is the bias word in position form
+pub record Counted (d : Desk) (k raw : ℕ) : Type 0 where
+  pub setpoint : wordOf (sampleLeft d k raw) k 2 ≤ inputFull d k
+  pub pv : wordOf (sampleLeft d k raw) k 3 ≤ inputFull d k
+  pub output : wordOf (sampleLeft d k raw) k 5 ≤ outputFull d k
+  pub error : natAbs (stepAt d k raw .carried .past .error) ≤ outputFull d k
+  pub bias : isManual (readingAt d k .mode) ≡ false → readingAt d k .settings .mode1 .velocity ≡ false → wordOf (sampleLeft d k raw) k 4 ≤ outputFull d k
+
+-- A5 with bit 10 on, and A11: s and p are in counts of the input, s′ and p′ are these converted; the deadband compares s and p, the error is of s′ and p′,
+-- squared over G toward 0
+pub record Errors (d : Desk) (k raw : ℕ) : Type 0 where
+  pub quiet : bit 8 (wordOf d k 0) ≡ true → apart (sensedAt d k raw .setpoint) (sensedAt d k raw .pv) < wordOf d k 19 → sensedAt d k raw .error ≡ pos 0
+  pub plain : (bit 8 (wordOf d k 0) && ltb (apart (sensedAt d k raw .setpoint) (sensedAt d k raw .pv)) (wordOf d k 19)) ≡ false → bit 7 (wordOf d k 0) ≡ false
+      → let F = inputFull d k in
+      let G = outputFull d k in
+      sensedAt d k raw .error ≡ pos (converted F G (sensedAt d k raw .setpoint)) -ℤ pos (converted F G (sensedAt d k raw .pv))
+  pub squared : (bit 8 (wordOf d k 0) && ltb (apart (sensedAt d k raw .setpoint) (sensedAt d k raw .pv)) (wordOf d k 19)) ≡ false → bit 7 (wordOf d k 0) ≡ true
+      → let F = inputFull d k in
+      let G = outputFull d k in
+      let e = pos (converted F G (sensedAt d k raw .setpoint)) -ℤ pos (converted F G (sensedAt d k raw .pv)) in
+      let q = natAbs (sensedAt d k raw .error) in
+      (sensedAt d k raw .error ≡ withSign e q) × (q * G ≤ natAbs e * natAbs e) × (natAbs e * natAbs e < (q + 1) * G)
+
+-- A6, A7 with bit 10 on: what the terms compare. At an entry and at the first accepted sample the past is the present; else it is both carried PVs converted,
+-- and the carried error as it stands
+pub record Compared (d : Desk) (k raw : ℕ) : Type 0 where
+  pub fresh : let c = recordAt (d .numbers) k in
+      let x = sensedAt d k raw in
+      let p = converted (inputFull d k) (outputFull d k) (x .pv) in
+      (not (c .sampled) || x .entry) ≡ true
+      → stepAt d k raw .carried .drive
+      ≡ movedOf (readingAt d k .settings) (isManual (readingAt d k .mode)) (startOf (x .entry) (heldOf (readingAt d k .settings)) (c .drive))
+      (record { last = p; prior = p; error = x .error }) p (x .error)
+  pub later : let c = recordAt (d .numbers) k in
+      let x = sensedAt d k raw in
+      let F = inputFull d k in
+      let G = outputFull d k in
+      (not (c .sampled) || x .entry) ≡ false
+      → stepAt d k raw .carried .drive
+      ≡ movedOf (readingAt d k .settings) (isManual (readingAt d k .mode)) (c .drive)
+      (record { last = converted F G (c .past .last); prior = converted F G (c .past .prior); error = c .past .error }) (converted F G (x .pv)) (x .error)
+
+pub record Formats : Type 0 where
+  -- M7: for any full scales; an odd one meets no half
+  pub conversion : (F G : ℕ) → 0 < F → 0 < G → Conversion F G
+  pub odd : (m G v k : ℕ) → 2 * (v * G) ≡ (2 * k + 1) * (2 * m + 1) → ⊥
+  pub same : (F v : ℕ) → 0 < F → v ≤ F → converted F F v ≡ v
+  -- M3: F by bits 9 and 1 of word 1; G by bits 13 and 12 with bit 10 on, else F
+  pub input : (d : Desk) (k : ℕ) → inputFull d k ≡ fullBy (bit 9 (wordOf d k 1)) (bit 1 (wordOf d k 1))
+  pub own : (d : Desk) (k : ℕ) → bit 10 (wordOf d k 1) ≡ true → outputFull d k ≡ fullBy (bit 13 (wordOf d k 1)) (bit 12 (wordOf d k 1))
+  pub one : (d : Desk) (k : ℕ) → bit 10 (wordOf d k 1) ≡ false → outputFull d k ≡ inputFull d k
+  pub refused : (d : Desk) (k raw : ℕ) → Readable d k → Refused d k raw
+  pub counted : (d : Desk) (k raw : ℕ) → numberOf (sampleAnswer d k raw) ≡ 0 → Counted d k raw
+  pub errors : (d : Desk) (k raw : ℕ) → bit 10 (wordOf d k 1) ≡ true → Errors d k raw
+  pub compared : (d : Desk) (k raw : ℕ) → bit 10 (wordOf d k 1) ≡ true → Compared d k raw
+  -- A11: what is recorded is p in counts of the input, and the error as it was computed
+  pub records : (d : Desk) (k raw : ℕ) → let c = recordAt (d .numbers) k in
+      let next = stepAt d k raw .carried .past in
+      (next .last ≡ sensedAt d k raw .pv) × (next .prior ≡ cond (c .sampled) (c .past .last) (sensedAt d k raw .pv)) × (next .error ≡ sensedAt d k raw .error)
+  -- B7: bit 11 of the status asks whether words 2 and 3 are the same, in counts of the input
+  pub status : (d : Desk) (k raw : ℕ) → numberOf (sampleAnswer d k raw) ≡ 0 → let after : ℕ → ℕ = wordOf (sampleLeft d k raw) k in
+      bit 11 (after 6)
+      ≡ (not (isManual (readingAt d k .mode)) && (eqb (after 5) (wordOf d k 24) || eqb (after 5) (wordOf d k 25)) && not (eqb (after 3) (after 2)))
+  -- E2, E6 of one sample, whatever two full scales its reading has, words above 0; and the plain loop keeps p in counts of the input
+  pub accurate : (r : Reading) (c : Carried) (raw : ℕ) (q : Plain) → Usable r raw → Ranged c → Tied c q
+      → Good (stepOf r c raw .written .output) (r .settings .limits .low) (r .settings .limits .high) (plainAfter q r raw)
+  pub keeps : (r : Reading) (raw : ℕ) (q : Plain) → plainAfter q r raw .last ≡ sensedOf r (q .state) raw .pv
