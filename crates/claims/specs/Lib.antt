@@ -1,4 +1,4 @@
--- The client's three demands, and what is promised of profiles, of the root, of the setup file and of the transfer to Cascade, each a type whose proof stands beside
+-- The client's three demands, and what is promised of profiles, of the root, of the setup file, of the transfer to Cascade and of two formats, each a type whose proof stands beside
 -- it in proofs/. They speak of the definitions that the contracts of the exported calls cite: any lent words, any lent numbers, any lengths.
 pub mod Turns
 pub mod Names

@@ -13,11 +13,11 @@ ghost use Rattle.desk.specs.Desk.{lent, resetAnswer, resetLeft, storeAnswer, st
 ghost use Rattle.kexbardi.specs.Interface.{lineBy, lineLeft};
 
 // Q10: the version of functions and layout, major, minor and patch as MMmmpp: its one source (package/make).
-const VERSION: u32 = 50000;
+const VERSION: u32 = 50100;
 
 #[no_mangle]
 pub extern "C" fn kexbardi_version() -> u32
-    ensures { λ r. ⌜ r ≡ 50000 ⌝ }
+    ensures { λ r. ⌜ r ≡ 50100 ⌝ }
 {
     VERSION
 }
