@@ -1,14 +1,14 @@
 -- What is promised of an output with a format of its own, proved.
-use Prim.Native.Nat.{ℕ, zero, suc, _+_, _*_, _≤_, _<_}
+use Prim.Native.Nat.{ℕ, zero, suc, _≤_, _<_}
 use native.Mathlib.Omega.{arith}
 use mathlib.Core.Path.{_≡_, refl, sym, ap, subst, _∙_}
 use mathlib.Core.Bool.{Bool, true, false, cond, not, _&&_, _||_}
 use mathlib.Core.List.{List, [], _∷_}
 use lib.Dec.{T, ltb, eqb, lit<}
-use lib.IntN.{ℤ, pos, natAbs, _-ℤ_}
+use lib.IntN.{ℤ, pos, _-ℤ_}
 use lib.Signed.{_≤ℤ_}
 use lib.ListN.{getD}
-use borrow.Author.Tests.{lt-ltb, ltb-false}
+use borrow.Author.Tests.{lt-ltb}
 use Rattle.numbers.specs.Whole.{linear, abs}
 use Rattle.numbers.specs.Limits.{clampℤ}
 use Rattle.numbers.specs.Limits.Laws.{clamp-low, clamp-high}
@@ -39,12 +39,12 @@ use Rattle.carried.specs.Layout.{recordAt}
 use Rattle.judging.specs.Judging.Laws.{limits-good}
 use Rattle.engine.specs.declared.sensing.Sensed.{Sensed}
 use Rattle.engine.specs.Sensing.{errorIn, sensedOf}
-use Rattle.engine.specs.Driving.{heldOf, startOf, keptIn, pastOf, movedOf, drivenOf}
-use Rattle.engine.specs.Writing.{outputWord, biasWord, statusWord, writtenOf, nextOf}
+use Rattle.engine.specs.Driving.{startOf, keptIn, pastOf, drivenOf}
+use Rattle.engine.specs.Writing.{biasWord, statusWord, writtenOf, nextOf}
 use Rattle.engine.specs.Steps.{stepOf}
 use Rattle.engine.specs.Steps.Laws.{drivable, sensed-scaled}
 use Rattle.engine.proofs.Limits.{word-inside}
-use Rattle.plain.specs.Plain.{Plain, countAfter, movedBy, plainAfter}
+use Rattle.plain.specs.Plain.{Plain, movedBy, plainAfter}
 use Rattle.plain.specs.Plain.Laws.{sample-good}
 use Rattle.desk.specs.Desk.{Desk, readingAt, stepAt, sampleAnswer, sampleLeft}
 use Rattle.desk.specs.Desk.Laws.{sampled}

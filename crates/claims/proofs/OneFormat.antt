@@ -1,26 +1,22 @@
 -- With bit 10 of mode 2 off every result is what it was, proved.
 use Prim.Native.Nat.{ℕ, _+_}
 use mathlib.Core.Path.{_≡_, refl, sym, ap, _∙_}
-use mathlib.Core.Bool.{Bool, true, false, cond, not, _&&_, _||_}
-use mathlib.Core.List.{List, [], _∷_}
-use lib.Dec.{ltb, lit<}
-use lib.IntN.{ℤ, pos, natAbs, _-ℤ_}
+use mathlib.Core.Bool.{Bool, true, false, not, _||_, or-true}
+use mathlib.Core.List.{[], _∷_}
+use lib.Dec.{lit<}
+use lib.IntN.{ℤ}
 use lib.ListN.{getD}
-use Rattle.numbers.specs.Distances.{apart}
 use Rattle.numbers.specs.Distances.Laws.{apart-is}
-use Rattle.numbers.specs.Fractions.{whole}
-use Rattle.table.specs.declared.format.Format.{Format}
 use Rattle.table.specs.declared.settings.Mode2.{Mode2}
 use Rattle.table.specs.declared.settings.Settings.{Settings}
 use Rattle.table.specs.declared.reading.Reading.{Reading}
-use Rattle.table.specs.Words.{bit, any, baseOf, blockAt}
+use Rattle.table.specs.Words.{bit, any, baseOf}
 use Rattle.table.specs.Words.Laws.{block-at}
 use Rattle.table.specs.Settings.{mode2Of, settingsOf}
 use Rattle.table.specs.Modes.{isManual}
 use Rattle.table.specs.Reading.{readingOf}
-use Rattle.control.specs.Counts.{outputCounts}
 use Rattle.control.specs.Counts.Laws.{counts-same}
-use Rattle.control.specs.Errors.{inDeadband, squaredOver, errorOf}
+use Rattle.control.specs.Errors.{inDeadband, errorOf}
 use Rattle.carried.specs.declared.record.State.{State}
 use Rattle.carried.specs.declared.record.Past.{Past}
 use Rattle.carried.specs.declared.record.Carried.{Carried}
@@ -31,8 +27,8 @@ use Rattle.engine.specs.Driving.{heldOf, startOf, pastOf, movedOf, drivenOf}
 use Rattle.engine.specs.Driving.Laws.{kept-same}
 use Rattle.engine.specs.Writing.{writtenOf, nextOf}
 use Rattle.engine.specs.Steps.{stepOf}
-use Rattle.plain.specs.Plain.{Plain, countAfter, movedBy, plainAfter}
-use Rattle.desk.specs.Desk.{Desk, readingAt, stepAt}
+use Rattle.plain.specs.Plain.{Plain, plainAfter}
+use Rattle.desk.specs.Desk.{Desk, readingAt}
 use Rattle.claims.specs.OneFormat.{mode2Then, errorThen, sensedThen, pastThen, drivenThen, stepThen, plainThen, OneFormat}
 
 -- ---- what is read
@@ -42,18 +38,8 @@ stray : (a b11 b12 b13 b14 b15 : Bool)
     → ((((a || b11) || b14) || b15) || (b12 || b13)) ≡ ((((((a || false) || b11) || b12) || b13) || b14) || b15)
 stray true b11 b12 b13 b14 b15 = refl
 stray false true b12 b13 b14 b15 = refl
-stray false false b12 b13 true b15 = go b12 b13
-  where
-    go : (x y : Bool) → true ≡ ((x || y) || true) || b15
-    go true y = refl
-    go false true = refl
-    go false false = refl
-stray false false b12 b13 false true = go b12 b13
-  where
-    go : (x y : Bool) → true ≡ ((x || y) || false) || true
-    go true y = refl
-    go false true = refl
-    go false false = refl
+stray false false b12 b13 true b15 = sym (ap (λ (t : Bool). t || b15) (or-true (b12 || b13)))
+stray false false b12 b13 false true = sym (or-true ((b12 || b13) || false))
 stray false false true b13 false false = refl
 stray false false false true false false = refl
 stray false false false false false false = refl

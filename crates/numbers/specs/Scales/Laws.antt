@@ -1,6 +1,6 @@
 -- The laws of conversion, for any two full scales F and G above 0 (G = 0 makes every count 0).
 use mathlib.Core.Path.{_≡_, ap, _∙_}
-use Prim.Native.Nat.{ℕ, _+_, _*_, _≤_, _<_, min}
+use Prim.Native.Nat.{ℕ, _+_, _*_, _≤_, _<_}
 use native.Mathlib.Omega.{arith}
 use native.Mathlib.Nat.{mul-comm, mul-le-mul-right}
 use Rattle.numbers.specs.Rounding.{halfUp}

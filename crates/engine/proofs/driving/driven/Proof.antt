@@ -1,7 +1,7 @@
 -- `engine::driven` meets its contract, by what its callees ensure; the terms fit, as an accepted sample's do.
 use borrow.Author.Needs.{needs}
 use mathlib.Core.Path.{_≡_, _∙_}
-use mathlib.Core.Bool.{Bool, false, not, _||_}
+use mathlib.Core.Bool.{Bool, false, not}
 use Prim.Native.Nat.{_≤_}
 use lib.IntN.{ℤ, natAbs}
 use Rattle.table.specs.declared.settings.Mode2.{Mode2}
