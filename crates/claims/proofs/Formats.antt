@@ -1,11 +1,11 @@
 -- What is promised of an output with a format of its own, proved.
-use Prim.Native.Nat.{ℕ, zero, suc, _≤_, _<_}
+use Prim.Native.Nat.{ℕ, zero, suc, _+_, _*_, _≤_, _<_}
 use native.Mathlib.Omega.{arith}
 use mathlib.Core.Path.{_≡_, refl, sym, ap, subst, _∙_}
 use mathlib.Core.Bool.{Bool, true, false, cond, not, _&&_, _||_}
 use mathlib.Core.List.{List, [], _∷_}
 use lib.Dec.{T, ltb, eqb, lit<}
-use lib.IntN.{ℤ, pos, _-ℤ_}
+use lib.IntN.{ℤ, pos, natAbs, _-ℤ_}
 use lib.Signed.{_≤ℤ_}
 use lib.ListN.{getD}
 use borrow.Author.Tests.{lt-ltb}
@@ -13,7 +13,7 @@ use Rattle.numbers.specs.Whole.{linear, abs}
 use Rattle.numbers.specs.Limits.{clampℤ}
 use Rattle.numbers.specs.Limits.Laws.{clamp-low, clamp-high}
 use Rattle.numbers.specs.Distances.{apart}
-use Rattle.numbers.specs.Rounding.{unitsOf}
+use Rattle.numbers.specs.Rounding.{unitsOf, nearestCount}
 use Rattle.numbers.specs.Rounding.Laws.{half-up-high}
 use Rattle.numbers.specs.Fractions.{Fraction}
 use Rattle.numbers.specs.Scales.{converted}
@@ -25,27 +25,32 @@ use Rattle.table.specs.declared.reading.Reading.{Reading}
 use Rattle.table.specs.Words.{bit, formatBy, baseOf, blockAt}
 use Rattle.table.specs.Words.Laws.{block-at, none-at, or-false}
 use Rattle.table.specs.Settings.{unusedBits, mode2Of, settingsOf}
-use Rattle.table.specs.Modes.{isManual}
-use Rattle.table.specs.Reading.{readingOf}
+use Rattle.table.specs.Modes.{isManual, isCascade}
+use Rattle.table.specs.Programs.{highEndIn}
+use Rattle.table.specs.Programs.Laws.{program-ends}
+use Rattle.profile.specs.Flags.{flagsOf}
+use Rattle.profile.specs.Samples.{sampledBy}
+use Rattle.table.specs.Reading.{tableOf, readingOf}
 use Rattle.table.specs.Reading.Laws.{limit-low, limit-high, output-scale}
 use Rattle.control.specs.Counts.{outputCounts}
 use Rattle.control.specs.Errors.{inDeadband, squaredOver, errorOf}
 use Rattle.control.specs.Errors.Laws.{squared-toward-zero}
 use Rattle.alarms.specs.declared.status.Seen.{Seen}
 use Rattle.alarms.specs.Status.{statusOf, bitsOf}
+use Rattle.alarms.specs.Status.{wordOf as statusBits}
 use Rattle.alarms.specs.Status.Laws.{status-bit}
 use Rattle.carried.specs.declared.record.State.{State}
 use Rattle.carried.specs.Layout.{recordAt}
 use Rattle.judging.specs.Judging.Laws.{limits-good}
 use Rattle.engine.specs.declared.sensing.Sensed.{Sensed}
-use Rattle.engine.specs.Sensing.{errorIn, sensedOf}
+use Rattle.engine.specs.Sensing.{profiledOf, errorIn, sensedOf}
 use Rattle.engine.specs.Driving.{startOf, keptIn, pastOf, drivenOf}
-use Rattle.engine.specs.Writing.{biasWord, statusWord, writtenOf, nextOf}
+use Rattle.engine.specs.Writing.{outputWord, biasWord, statusWord, writtenOf, nextOf}
 use Rattle.engine.specs.Steps.{stepOf}
 use Rattle.engine.specs.Steps.Laws.{drivable, sensed-scaled}
 use Rattle.engine.proofs.Limits.{word-inside}
 use Rattle.plain.specs.Plain.{Plain, movedBy, plainAfter}
-use Rattle.plain.specs.Plain.Laws.{sample-good}
+use Rattle.plain.specs.Plain.Laws.{start-tied, sample-good}
 use Rattle.desk.specs.Desk.{Desk, readingAt, stepAt, sampleAnswer, sampleLeft}
 use Rattle.desk.specs.Desk.Laws.{sampled}
 use Rattle.claims.specs.Calls.{Settled}
@@ -120,6 +125,27 @@ module _ (d : Desk) (k : ℕ) where
 
   high : readingAt d k .settings .limits .high ≡ wordOf d k 25
   high = let c = recordAt (d .numbers) k .state in limit-high (d .words) k (c .mode) (c .profile .segment)
+
+  minutes : readingAt d k .settings .mode2 .minutes ≡ bit 4 (wordOf d k 1)
+  unfolding mode2Of
+  minutes = ap (λ (m : Mode2). m .minutes) mode2
+
+  stored : readingAt d k .settings .stored .status ≡ wordOf d k 6
+  unfolding readingOf settingsOf
+  stored = at 6 (lit< tt)
+
+  -- each full scale is odd
+  none : (v j : ℕ) → 2 * (v * outputFull d k) ≡ (2 * j + 1) * inputFull d k → ⊥
+  none v j e = go (bit 9 (wordOf d k 1)) (bit 1 (wordOf d k 1)) (e ∙ ap (λ (n : ℕ). (2 * j + 1) * n) input)
+    where
+      go : (a b : Bool) → 2 * (v * outputFull d k) ≡ (2 * j + 1) * fullBy a b → ⊥
+      go true b h = converted-no-tie 32767 (outputFull d k) v j h
+      go false true h = converted-no-tie 16383 (outputFull d k) v j h
+      go false false h = converted-no-tie 2047 (outputFull d k) v j h
+
+  ends : readingAt d k .program .on ≡ true → readingAt d k .program .highend ≡ highEndIn (inputFull d k) (blockAt (d .words) (tableOf (d .words) k))
+  unfolding readingOf
+  ends on = program-ends (d .words) (tableOf (d .words) k) _ _ _ on
 
   -- with bit 10 on every count is converted
   counts : bit 10 (wordOf d k 1) ≡ true → (v : ℕ) → outputCounts (readingAt d k .settings .mode2) v ≡ converted (inputFull d k) (outputFull d k) v
@@ -229,19 +255,52 @@ recorded : (d : Desk) (k raw : ℕ) → let c = recordAt (d .numbers) k in
 unfolding stepOf nextOf
 recorded d k raw = (refl, refl, refl)
 
+shown : (d : Desk) (k raw : ℕ) → numberOf (sampleAnswer d k raw) ≡ 0
+    → (wordOf (sampleLeft d k raw) k 2 ≡ sensedAt d k raw .setpoint) × (wordOf (sampleLeft d k raw) k 3 ≡ sensedAt d k raw .pv)
+unfolding stepOf writtenOf
+shown d k raw e = let done = demand-2 .exact d k raw e in (done .setpoint, done .pv)
+
+outputs : (d : Desk) (k raw : ℕ) → numberOf (sampleAnswer d k raw) ≡ 0 → isManual (readingAt d k .mode) ≡ false → let drive = stepAt d k raw .carried .drive in
+    (wordOf (sampleLeft d k raw) k 5 ≡ nearestCount (natAbs (drive .output)))
+    × (readingAt d k .settings .mode1 .velocity ≡ false
+    → wordOf (sampleLeft d k raw) k 4 ≡ nearestCount (natAbs (clampℤ (drive .bias) (pos 0) (pos (unitsOf (outputFull d k))))))
+unfolding stepOf writtenOf nextOf outputWord biasWord
+outputs d k raw e automatic =
+    let done = demand-2 .exact d k raw e in
+    (done .output ∙ rw automatic, λ position. done .bias ∙ rw (automatic, position))
+
+-- the status before the sample is word 6, and of what it sees words 2, 3 and 5 are left
+word6 : (d : Desk) (k raw : ℕ) → numberOf (sampleAnswer d k raw) ≡ 0 → let after : ℕ → ℕ = wordOf (sampleLeft d k raw) k in
+    let s = readingAt d k .settings in
+    let c = recordAt (d .numbers) k in
+    after 6
+    ≡ statusBits (bitsOf (statusOf (readingAt d k .mode) (s .mode1) (s .alarms) (s .limits) (wordOf d k 6)
+    (record { pv = after 3; setpoint = after 2; last = c .past .last; sampled = c .sampled; output = after 5 })))
+unfolding stepOf writtenOf statusWord
+word6 d k raw e =
+    let done = demand-2 .exact d k raw e in
+    rw (done .status, done .output, done .pv, done .setpoint, ← stored d k)
+
 status : (d : Desk) (k raw : ℕ) → numberOf (sampleAnswer d k raw) ≡ 0 → let after : ℕ → ℕ = wordOf (sampleLeft d k raw) k in
     bit 11 (after 6)
     ≡ (not (isManual (readingAt d k .mode)) && (eqb (after 5) (wordOf d k 24) || eqb (after 5) (wordOf d k 25)) && not (eqb (after 3) (after 2)))
-unfolding stepOf writtenOf statusWord statusOf
+unfolding statusOf
 status d k raw e =
-    let done = demand-2 .exact d k raw e in
     let r = readingAt d k in
     let s = r .settings in
     let c = recordAt (d .numbers) k in
-    let x = sensedAt d k raw in
-    let seen : Seen = record { pv = x .pv; setpoint = x .setpoint; last = c .past .last; sampled = c .sampled; output = stepAt d k raw .written .output } in
-    rw (done .status, done .output, done .pv, done .setpoint, ← low d k, ← high d k)
-    (status-bit (bitsOf (statusOf (r .mode) (s .mode1) (s .alarms) (s .limits) (s .stored .status) seen)) 11)
+    let after : ℕ → ℕ = wordOf (sampleLeft d k raw) k in
+    let seen : Seen = record { pv = after 3; setpoint = after 2; last = c .past .last; sampled = c .sampled; output = after 5 } in
+    rw (word6 d k raw e, ← low d k, ← high d k)
+    (status-bit (bitsOf (statusOf (r .mode) (s .mode1) (s .alarms) (s .limits) (wordOf d k 6) seen)) 11)
+
+word27 : (d : Desk) (k raw : ℕ) → numberOf (sampleAnswer d k raw) ≡ 0 → isCascade (readingAt d k .mode) ≡ false → readingAt d k .program .on ≡ true
+    → let after : ℕ → ℕ = wordOf (sampleLeft d k raw) k in
+    after 27 ≡ flagsOf (stepAt d k raw .carried .state .profile) (readingAt d k .program .pair .deviation) (after 2) (after 3)
+unfolding stepOf writtenOf nextOf sensedOf profiledOf sampledBy
+word27 d k raw e outside on =
+    let done = demand-2 .exact d k raw e in
+    rw (done .flags, done .setpoint, done .pv) (rw outside)
 
 kept-pv : (n : ℕ) (q : Plain) (r : Reading) (x : Sensed) (start : Fraction) (last : ℕ) → movedBy n q r x start last .last ≡ x .pv
 unfolding movedBy
@@ -255,17 +314,25 @@ keeps r raw q = kept-pv _ _ _ _ _ _
 pub formats : Formats
 formats = record {
   conversion = conversion;
-  odd = converted-no-tie;
+  none = none;
   same = λ F v some h. converted-same some h;
   input = input;
   own = own;
   one = one;
+  bits = unused;
+  minutes = minutes;
   refused = refused;
+  ends = ends;
   counted = counted;
   errors = errors;
   compared = compared;
   records = recorded;
+  shows = shown;
+  outputs = outputs;
+  word6 = word6;
+  word27 = word27;
   status = status;
-  accurate = λ r c raw q u g t. sample-good u g q t .0;
+  begins = start-tied;
+  accurate = λ r c raw q u g t. sample-good u g q t;
   keeps = keeps;
 }

@@ -2,7 +2,7 @@
 use Prim.Native.Nat.{ℕ, _+_}
 use mathlib.Core.Path.{_≡_, refl, sym, ap, _∙_}
 use mathlib.Core.Bool.{Bool, true, false, not, _||_, or-true}
-use mathlib.Core.List.{[], _∷_}
+use mathlib.Core.List.{[], _∷_, _++_}
 use lib.Dec.{lit<}
 use lib.IntN.{ℤ}
 use lib.ListN.{getD}
@@ -13,7 +13,10 @@ use Rattle.table.specs.declared.reading.Reading.{Reading}
 use Rattle.table.specs.Words.{bit, any, baseOf}
 use Rattle.table.specs.Words.Laws.{block-at}
 use Rattle.table.specs.Settings.{mode2Of, settingsOf}
+use Rattle.refusals.specs.Refusals.{firstOf}
 use Rattle.table.specs.Modes.{isManual}
+use Rattle.table.specs.Transfers.{majorIn}
+use Rattle.judging.specs.Judging.{transferCases}
 use Rattle.table.specs.Reading.{readingOf}
 use Rattle.control.specs.Counts.Laws.{counts-same}
 use Rattle.control.specs.Errors.{inDeadband, errorOf}
@@ -22,14 +25,16 @@ use Rattle.carried.specs.declared.record.Past.{Past}
 use Rattle.carried.specs.declared.record.Carried.{Carried}
 use Rattle.carried.specs.Layout.{recordAt}
 use Rattle.engine.specs.declared.sensing.Sensed.{Sensed}
-use Rattle.engine.specs.Sensing.{errorIn, sensedOf}
+use Rattle.engine.specs.declared.writing.Written.{Written}
+use Rattle.control.specs.declared.forms.Drive.{Drive}
+use Rattle.engine.specs.Sensing.{pvIn, errorIn, sensedOf}
 use Rattle.engine.specs.Driving.{heldOf, startOf, pastOf, movedOf, drivenOf}
 use Rattle.engine.specs.Driving.Laws.{kept-same}
 use Rattle.engine.specs.Writing.{writtenOf, nextOf}
 use Rattle.engine.specs.Steps.{stepOf}
 use Rattle.plain.specs.Plain.{Plain, plainAfter}
-use Rattle.desk.specs.Desk.{Desk, readingAt}
-use Rattle.claims.specs.OneFormat.{mode2Then, errorThen, sensedThen, pastThen, drivenThen, stepThen, plainThen, OneFormat}
+use Rattle.desk.specs.Desk.{Desk, memoryCases, loopCases, readingAt, sampleAnswer}
+use Rattle.claims.specs.OneFormat.{mode2Then, errorThen, sensedThen, pastThen, drivenThen, writtenThen, stepThen, casesThen, plainThen, OneFormat}
 
 -- ---- what is read
 
@@ -105,6 +110,11 @@ driven-then r t c state raw held =
     ap (λ (past : Past). movedOf (r .settings) (isManual (r .mode)) (startOf (x .entry) held (c .drive)) past (x .pv) (x .error))
     (past-then (r .settings .mode2) t (not (c .sampled) || x .entry) (c .past) (x .pv) (x .error))
 
+written-then : (r : Reading) → Then (r .settings .mode2) → (c : Carried) (x : Sensed) (held : ℕ) (drive : Drive)
+    → writtenOf r c x held drive ≡ writtenThen r c x held drive
+unfolding writtenOf
+written-then r t c x held drive = rw (t .scale)
+
 step-then : (r : Reading) → Then (r .settings .mode2) → (c : Carried) (raw : ℕ) → stepOf r c raw ≡ stepThen r c raw
 unfolding stepOf
 step-then r t c raw =
@@ -112,6 +122,18 @@ step-then r t c raw =
     ap (λ (x : Sensed). record { written = writtenOf r c x held (drivenOf r c x held); carried = nextOf c x (drivenOf r c x held) }) (sensed-then r t (c .state) raw)
     ∙ ap (λ drive. record { written = writtenOf r c (sensedThen r (c .state) raw) held drive; carried = nextOf c (sensedThen r (c .state) raw) drive })
     (driven-then r t c (c .state) raw held)
+    ∙ let x = sensedThen r (c .state) raw in
+    ap (λ (w : Written). record { written = w; carried = nextOf c x (drivenThen r c x held) }) (written-then r t c x held (drivenThen r c x held))
+
+-- ---- the answer
+
+answer-then : (d : Desk) (k raw : ℕ) → let r = readingAt d k in
+    Then (r .settings .mode2)
+    → sampleAnswer d k raw
+    ≡ firstOf (memoryCases d ++ (loopCases (d .numbers) k
+    ++ (casesThen r raw ++ transferCases (r .transfer) (majorIn (d .words) k (r .settings .pointer)) (pvIn r raw))))
+unfolding sampleAnswer
+answer-then d k raw t = rw (t .scale)
 
 -- ---- the plain loop
 
@@ -123,6 +145,7 @@ plain-then r t q raw =
 pub one-format : OneFormat
 one-format = record {
   mode2 = read;
+  answer = λ d k raw off. answer-then d k raw (as-then (getD (d .words) (baseOf k + 1) 0) (read d k off));
   step = λ d k raw off. step-then (readingAt d k) (as-then (getD (d .words) (baseOf k + 1) 0) (read d k off)) (recordAt (d .numbers) k) raw;
   plain = λ r word e q raw. plain-then r (as-then word e) q raw;
 }

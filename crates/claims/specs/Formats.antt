@@ -3,16 +3,23 @@
 use Prim.Native.Nat.{ℕ, _+_, _*_, _≤_, _<_}
 use mathlib.Core.Path.{_≡_}
 use mathlib.Core.Bool.{Bool, true, false, cond, not, _&&_, _||_}
+use mathlib.Core.List.{[], _∷_}
 use lib.Dec.{ltb, eqb}
 use lib.IntN.{pos, natAbs, _-ℤ_}
 use lib.ListN.{getD}
 use Rattle.numbers.specs.Distances.{apart}
-use Rattle.numbers.specs.Rounding.{withSign}
+use Rattle.numbers.specs.Limits.{clampℤ}
+use Rattle.numbers.specs.Rounding.{withSign, unitsOf, nearestCount}
 use Rattle.numbers.specs.Scales.{converted}
 use Rattle.refusals.specs.Refusals.{numberOf}
 use Rattle.table.specs.declared.reading.Reading.{Reading}
-use Rattle.table.specs.Words.{bit, baseOf}
-use Rattle.table.specs.Modes.{isManual}
+use Rattle.table.specs.Words.{bit, any, baseOf, blockAt}
+use Rattle.table.specs.Modes.{isManual, isCascade}
+use Rattle.table.specs.Programs.{highEndIn}
+use Rattle.table.specs.Reading.{tableOf}
+use Rattle.profile.specs.Flags.{flagsOf}
+use Rattle.alarms.specs.Status.{statusOf, bitsOf}
+use Rattle.alarms.specs.Status.{wordOf as statusBits}
 use Rattle.carried.specs.declared.record.Carried.{Carried}
 use Rattle.carried.specs.Layout.{slotOf, outOfRange, numbersAt, recordAt}
 use Rattle.carried.specs.Ranged.{Ranged}
@@ -21,7 +28,7 @@ use Rattle.engine.specs.Sensing.{sensedOf}
 use Rattle.engine.specs.Driving.{heldOf, startOf, movedOf}
 use Rattle.engine.specs.Steps.{stepOf}
 use Rattle.engine.specs.Premises.{Usable}
-use Rattle.plain.specs.Plain.{Plain, plainAfter}
+use Rattle.plain.specs.Plain.{Plain, begun, plainAfter}
 use Rattle.plain.specs.Plain.Laws.{Tied, Good}
 use Rattle.desk.specs.Desk.{Desk, fittingOf, readingAt, stepAt, sampleAnswer, sampleLeft}
 
@@ -67,7 +74,7 @@ pub record Refused (d : Desk) (k raw : ℕ) : Type 0 where
   pub stray : bit 10 (wordOf d k 1) ≡ false → (bit 12 (wordOf d k 1) || bit 13 (wordOf d k 1)) ≡ true → numberOf (sampleAnswer d k raw) ≡ 8
   pub limits : outputFull d k < wordOf d k 25 → numberOf (sampleAnswer d k raw) ≡ 8
 
--- M3, M7: after an accepted sample, setpoint and PV are counts of the input, the output and the error counts of the output, and so is the bias word in position form
+-- M3, M7: after an accepted sample setpoint and PV are at most F, output and error at most G, and so is the bias word in position form
 pub record Counted (d : Desk) (k raw : ℕ) : Type 0 where
   pub setpoint : wordOf (sampleLeft d k raw) k 2 ≤ inputFull d k
   pub pv : wordOf (sampleLeft d k raw) k 3 ≤ inputFull d k
@@ -110,15 +117,23 @@ pub record Compared (d : Desk) (k raw : ℕ) : Type 0 where
       (record { last = converted F G (c .past .last); prior = converted F G (c .past .prior); error = c .past .error }) (converted F G (x .pv)) (x .error)
 
 pub record Formats : Type 0 where
-  -- M7: for any full scales; an odd one meets no half
+  -- M7: for any full scales; those of a loop meet no half
   pub conversion : (F G : ℕ) → 0 < F → 0 < G → Conversion F G
-  pub odd : (m G v k : ℕ) → 2 * (v * G) ≡ (2 * k + 1) * (2 * m + 1) → ⊥
+  pub none : (d : Desk) (k v j : ℕ) → 2 * (v * outputFull d k) ≡ (2 * j + 1) * inputFull d k → ⊥
   pub same : (F v : ℕ) → 0 < F → v ≤ F → converted F F v ≡ v
   -- M3: F by bits 9 and 1 of word 1; G by bits 13 and 12 with bit 10 on, else F
   pub input : (d : Desk) (k : ℕ) → inputFull d k ≡ fullBy (bit 9 (wordOf d k 1)) (bit 1 (wordOf d k 1))
   pub own : (d : Desk) (k : ℕ) → bit 10 (wordOf d k 1) ≡ true → outputFull d k ≡ fullBy (bit 13 (wordOf d k 1)) (bit 12 (wordOf d k 1))
   pub one : (d : Desk) (k : ℕ) → bit 10 (wordOf d k 1) ≡ false → outputFull d k ≡ inputFull d k
+  -- M2: which bits of word 1 have to be off; bit 4 is for the reset time, with bit 10 on too
+  pub bits : (d : Desk) (k : ℕ) → let w = wordOf d k 1 in
+      readingAt d k .settings .mode2 .unused
+      ≡ any (bit 0 w ∷ bit 2 w ∷ bit 3 w ∷ bit 5 w ∷ bit 6 w ∷ bit 7 w ∷ bit 11 w ∷ bit 14 w ∷ bit 15 w ∷ (not (bit 10 w) && (bit 12 w || bit 13 w)) ∷ [])
+  pub minutes : (d : Desk) (k : ℕ) → readingAt d k .settings .mode2 .minutes ≡ bit 4 (wordOf d k 1)
   pub refused : (d : Desk) (k raw : ℕ) → Readable d k → Refused d k raw
+  -- N8: ramp ends are tested against F
+  pub ends : (d : Desk) (k : ℕ) → readingAt d k .program .on ≡ true
+      → readingAt d k .program .highend ≡ highEndIn (inputFull d k) (blockAt (d .words) (tableOf (d .words) k))
   pub counted : (d : Desk) (k raw : ℕ) → numberOf (sampleAnswer d k raw) ≡ 0 → Counted d k raw
   pub errors : (d : Desk) (k raw : ℕ) → bit 10 (wordOf d k 1) ≡ true → Errors d k raw
   pub compared : (d : Desk) (k raw : ℕ) → bit 10 (wordOf d k 1) ≡ true → Compared d k raw
@@ -126,11 +141,34 @@ pub record Formats : Type 0 where
   pub records : (d : Desk) (k raw : ℕ) → let c = recordAt (d .numbers) k in
       let next = stepAt d k raw .carried .past in
       (next .last ≡ sensedAt d k raw .pv) × (next .prior ≡ cond (c .sampled) (c .past .last) (sensedAt d k raw .pv)) × (next .error ≡ sensedAt d k raw .error)
-  -- B7: bit 11 of the status asks whether words 2 and 3 are the same, in counts of the input
+  -- A3, A11: words 2 and 3 show s and p in counts of the input
+  pub shows : (d : Desk) (k raw : ℕ) → numberOf (sampleAnswer d k raw) ≡ 0
+      → (wordOf (sampleLeft d k raw) k 2 ≡ sensedAt d k raw .setpoint) × (wordOf (sampleLeft d k raw) k 3 ≡ sensedAt d k raw .pv)
+  -- A10: outside Manual word 5 is the carried output in the nearest count; in position form word 4 is the bias, brought inside 0 to G, likewise
+  pub outputs : (d : Desk) (k raw : ℕ) → numberOf (sampleAnswer d k raw) ≡ 0 → isManual (readingAt d k .mode) ≡ false → let drive = stepAt d k raw .carried .drive in
+      (wordOf (sampleLeft d k raw) k 5 ≡ nearestCount (natAbs (drive .output)))
+      × (readingAt d k .settings .mode1 .velocity ≡ false
+      → wordOf (sampleLeft d k raw) k 4 ≡ nearestCount (natAbs (clampℤ (drive .bias) (pos 0) (pos (unitsOf (outputFull d k))))))
+  -- B1 to B8: the status is that of words 2, 3 and 5 as they are left, and of the carried last PV: nothing is converted
+  pub word6 : (d : Desk) (k raw : ℕ) → numberOf (sampleAnswer d k raw) ≡ 0 → let after : ℕ → ℕ = wordOf (sampleLeft d k raw) k in
+      let s = readingAt d k .settings in
+      let c = recordAt (d .numbers) k in
+      after 6
+      ≡ statusBits (bitsOf (statusOf (readingAt d k .mode) (s .mode1) (s .alarms) (s .limits) (wordOf d k 6)
+      (record { pv = after 3; setpoint = after 2; last = c .past .last; sampled = c .sampled; output = after 5 })))
+  -- G10: so is a profile's word 27 that of words 2 and 3
+  pub word27 : (d : Desk) (k raw : ℕ) → numberOf (sampleAnswer d k raw) ≡ 0 → isCascade (readingAt d k .mode) ≡ false → readingAt d k .program .on ≡ true
+      → let after : ℕ → ℕ = wordOf (sampleLeft d k raw) k in
+      after 27 ≡ flagsOf (stepAt d k raw .carried .state .profile) (readingAt d k .program .pair .deviation) (after 2) (after 3)
+  -- B7: bit 11 of the status asks whether words 2 and 3 are the same
   pub status : (d : Desk) (k raw : ℕ) → numberOf (sampleAnswer d k raw) ≡ 0 → let after : ℕ → ℕ = wordOf (sampleLeft d k raw) k in
       bit 11 (after 6)
       ≡ (not (isManual (readingAt d k .mode)) && (eqb (after 5) (wordOf d k 24) || eqb (after 5) (wordOf d k 25)) && not (eqb (after 3) (after 2)))
-  -- E2, E6 of one sample, whatever two full scales its reading has, words above 0; and the plain loop keeps p in counts of the input
+  -- E2, E6 for any two full scales that are words above 0, which `Usable` has of the reading: a sample's output word is good, and record and plain loop,
+  -- tied before it, are tied after it, as they are at the start; so it holds sample by sample, however the scales change. The plain loop keeps p in counts
+  -- of the input
+  pub begins : (c : Carried) → Tied c (begun c)
   pub accurate : (r : Reading) (c : Carried) (raw : ℕ) (q : Plain) → Usable r raw → Ranged c → Tied c q
       → Good (stepOf r c raw .written .output) (r .settings .limits .low) (r .settings .limits .high) (plainAfter q r raw)
+      × Tied (stepOf r c raw .carried) (plainAfter q r raw)
   pub keeps : (r : Reading) (raw : ℕ) (q : Plain) → plainAfter q r raw .last ≡ sensedOf r (q .state) raw .pv

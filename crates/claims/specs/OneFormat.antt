@@ -1,9 +1,10 @@
 -- With bit 10 of mode 2 off every result is what it was before the output could have a format of its own (M7). What was is written here once more:
--- one full scale F, which every bit of mode 2 above 9 would refuse, and nothing converted. What is not written here has its text of then.
+-- one full scale F, every bit of mode 2 above 9 refused, and nothing converted. What is not written here, and reads a full scale at all, reads F: A1, the
+-- ramp ends of a profile, N9.
 use Prim.Native.Nat.{ℕ, _+_}
 use mathlib.Core.Path.{_≡_}
 use mathlib.Core.Bool.{Bool, false, cond, not, _&&_, _||_}
-use mathlib.Core.List.{[], _∷_}
+use mathlib.Core.List.{List, [], _∷_, _++_}
 use lib.Dec.{ltb}
 use lib.IntN.{ℤ, pos, natAbs, _-ℤ_}
 use lib.ListN.{getD}
@@ -11,8 +12,12 @@ use Rattle.numbers.specs.Fractions.{whole}
 use Rattle.table.specs.declared.settings.Mode2.{Mode2}
 use Rattle.table.specs.declared.settings.Settings.{Settings}
 use Rattle.table.specs.declared.reading.Reading.{Reading}
-use Rattle.table.specs.Words.{bit, inputFormat, any, baseOf}
-use Rattle.table.specs.Modes.{isManual}
+use Rattle.refusals.specs.declared.Refusal.the-variants.{Digit, Setting, Above}
+use Rattle.refusals.specs.Refusals.{Case, _⇒_, firstOf}
+use Rattle.table.specs.Words.{bit, inputFormat, any, baseOf, clearRequests}
+use Rattle.table.specs.Modes.{isManual, isCascade}
+use Rattle.table.specs.Transfers.{majorIn}
+use Rattle.judging.specs.Judging.{badModes, badTimes, badLimits, badSetpoint, transferCases}
 use Rattle.control.specs.declared.forms.Drive.{Drive}
 use Rattle.control.specs.Errors.{squaredOver}
 use Rattle.carried.specs.declared.record.State.{State}
@@ -21,11 +26,12 @@ use Rattle.carried.specs.declared.record.Carried.{Carried}
 use Rattle.carried.specs.Layout.{recordAt}
 use Rattle.engine.specs.declared.sensing.Sensed.{Sensed}
 use Rattle.engine.specs.declared.stepping.Stepped.{Stepped}
-use Rattle.engine.specs.Sensing.{sensedOf}
+use Rattle.engine.specs.declared.writing.Written.{Written}
+use Rattle.engine.specs.Sensing.{pvIn, sensedOf}
 use Rattle.engine.specs.Driving.{heldOf, startOf, movedOf}
-use Rattle.engine.specs.Writing.{writtenOf, nextOf}
+use Rattle.engine.specs.Writing.{outputWord, biasWord, statusWord, nextOf}
 use Rattle.plain.specs.Plain.{Plain, countAfter, movedBy, plainAfter}
-use Rattle.desk.specs.Desk.{Desk, readingAt, stepAt}
+use Rattle.desk.specs.Desk.{Desk, memoryCases, loopCases, readingAt, stepAt, sampleAnswer}
 
 -- M2: mode 2: bits 9 and 1 gave the format of input and output, and every bit but 1, 4, 8 and 9 had to be off
 abbrev pub mode2Then : ℕ → Mode2
@@ -81,13 +87,29 @@ drivenThen r c x held =
     movedOf (r .settings) (isManual (r .mode)) (startOf (x .entry) held (c .drive))
     (pastThen (not (c .sampled) || x .entry) (c .past) (x .pv) (x .error)) (x .pv) (x .error)
 
+-- A10 to A12: the bias word was brought inside 0 to F
+abbrev pub writtenThen : Reading → Carried → Sensed → ℕ → Drive → Written
+writtenThen r c x held drive =
+    let s = r .settings in
+    let output = outputWord (isManual (r .mode)) held (drive .output) in
+    record {
+      word = clearRequests (s .stored .word);
+      setpoint = x .setpoint;
+      pv = x .pv;
+      bias = biasWord (isManual (r .mode) || s .mode1 .velocity) (s .stored .bias) (s .mode2 .input .scale) (drive .bias);
+      output = output;
+      status = statusWord r c x output;
+      flags = x .flags;
+      fault = x .fault;
+    }
+
 -- A1 to A12
 abbrev pub stepThen : Reading → Carried → ℕ → Stepped
 stepThen r c raw =
     let x = sensedThen r (c .state) raw in
     let held = heldOf (r .settings) in
     let drive = drivenThen r c x held in
-    record { written = writtenOf r c x held drive; carried = nextOf c x drive }
+    record { written = writtenThen r c x held drive; carried = nextOf c x drive }
 
 -- E3 to E5: the plain loop's sample
 abbrev pub plainThen : Plain → Reading → ℕ → Plain
@@ -97,10 +119,29 @@ plainThen q r raw =
     let n = countAfter (isManual (r .mode) || s .mode1 .freeze || s .mode1 .velocity) (x .entry) (q .n) in
     movedBy n q r x (cond (x .entry) (whole (pos (heldOf s))) (q .B)) (cond (x .entry) (x .pv) (q .last))
 
+-- O3: N7, N8 and N9; the output limits were tested against F as well
+abbrev pub casesThen : Reading → ℕ → List Case
+casesThen r raw =
+    let s = r .settings in
+    let F = s .mode2 .input .scale in
+    ((s .baddigit || r .program .baddigit) ⇒ Digit)
+    ∷ (badModes (s .mode1) (s .mode2 .unused) (s .alarms .hysteresis) ⇒ Setting)
+    ∷ (r .program .highend ⇒ Setting)
+    ∷ (badTimes (s .tuning) ⇒ Setting)
+    ∷ (badLimits (s .limits) F ⇒ Setting)
+    ∷ (badSetpoint (isCascade (r .mode)) F (s .stored .setpoint) (s .pointer) (r .remote) ⇒ Setting)
+    ∷ (ltb F raw ⇒ Above)
+    ∷ []
+
 pub record OneFormat : Type 0 where
-  -- word 1 of a loop with bit 10 off is read as it was; no other word was read by it, and N7 to N9 and N11 take what is read
+  -- word 1 of a loop with bit 10 off is read as it was
   pub mode2 : (d : Desk) (k : ℕ) → let word = getD (d .words) (baseOf k + 1) 0 in bit 10 word ≡ false → readingAt d k .settings .mode2 ≡ mode2Then word
-  -- and what a sample of it comes to, all words and numbers, is what it was
+  -- a sample of it is answered as it was, N5, N4 and N5 before and N11 behind
+  pub answer : (d : Desk) (k raw : ℕ) → bit 10 (getD (d .words) (baseOf k + 1) 0) ≡ false → let r = readingAt d k in
+      sampleAnswer d k raw
+      ≡ firstOf (memoryCases d ++ (loopCases (d .numbers) k
+      ++ (casesThen r raw ++ transferCases (r .transfer) (majorIn (d .words) k (r .settings .pointer)) (pvIn r raw))))
+  -- and what it comes to, all words and numbers, is what it was
   pub step : (d : Desk) (k raw : ℕ) → bit 10 (getD (d .words) (baseOf k + 1) 0) ≡ false
       → stepAt d k raw ≡ stepThen (readingAt d k) (recordAt (d .numbers) k) raw
   -- and what its plain loop makes of it, from any state

@@ -20,7 +20,7 @@ pub mod Laws
 
 -- A1: the raw PV, or the root of raw PV × F
 unfoldable pub pvOf : Bool → ℕ → ℕ → ℕ
-pvOf root scale raw = cond root (rootOf (raw * scale)) raw
+pvOf root F raw = cond root (rootOf (raw * F)) raw
 
 -- A1, with the loop's settings
 abbrev pub pvIn : Reading → ℕ → ℕ

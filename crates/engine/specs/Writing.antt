@@ -21,9 +21,9 @@ pub mod Laws
 unfoldable pub outputWord : Bool → ℕ → ℤ → ℕ
 outputWord manual held output = cond manual held (nearestCount (natAbs output))
 
--- A10: word 4: in position form the bias, brought inside 0 to F, in the nearest count; `kept` in velocity form and in Manual
+-- A10: word 4: in position form the bias, brought inside 0 to G, in the nearest count; `kept` in velocity form and in Manual
 unfoldable pub biasWord : Bool → ℕ → ℕ → ℤ → ℕ
-biasWord kept stored scale bias = cond kept stored (nearestCount (natAbs (clampℤ bias (pos 0) (pos (unitsOf scale)))))
+biasWord kept stored G bias = cond kept stored (nearestCount (natAbs (clampℤ bias (pos 0) (pos (unitsOf G)))))
 
 -- B1 to B8: word 6, with p and s of A1 to A4 and the last PV as it was carried
 unfoldable pub statusWord : Reading → Carried → Sensed → ℕ → ℕ

@@ -57,6 +57,8 @@ cases =
     ∷ case (word 1 0x1400) 0 0
     ∷ case (word 1 0x2400) 0 0
     ∷ case (word 1 0x3400) 0 0
+    ∷ case (word 1 0x1402) 32767 0
+    ∷ case (word 1 0x3712) 65535 0
     ∷ case (word 1 0x0800) 0 8
     ∷ case (word 1 0x0C00) 0 8
     ∷ case (word 1 0x2C00) 0 8
@@ -94,6 +96,8 @@ tables =
     ∷ case (table 512 0 4096) 0 8
     ∷ case (table 992 28 4096) 0 8
     ∷ case (λ ws. word 1 512 (table 512 0 65535 ws)) 0 0
+    ∷ case (λ ws. word 1 0x0600 (table 512 0 65535 ws)) 0 0
+    ∷ case (λ ws. word 1 0x2400 (table 512 0 4096 ws)) 0 8
     ∷ case (table 512 1 0x000A) 0 7
     ∷ case (table 512 2 0xA000) 0 7
     ∷ case (table 992 29 0x00A0) 0 7

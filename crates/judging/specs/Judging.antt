@@ -27,26 +27,27 @@ badModes bits unused hysteresis =
 abbrev pub badTimes : Tuning → Bool
 badTimes t = ltb (t .period) 5 || eqb (t .reset) 0
 
--- N8: the low output limit above the high one, or that above F
+-- N8: the low output limit above the high one, or that above G
 abbrev pub badLimits : OutputLimits → ℕ → Bool
-badLimits limits scale = ltb (limits .high) (limits .low) || ltb scale (limits .high)
+badLimits limits G = ltb (limits .high) (limits .low) || ltb G (limits .high)
 
 -- N8: word 2 above F; in Cascade, in its place, word 26 above 1,023, or a word above F at that address
 abbrev pub badSetpoint : Bool → ℕ → ℕ → ℕ → ℕ → Bool
-badSetpoint cascade scale setpoint pointer remote = (not cascade && ltb scale setpoint) || (cascade && (ltb 1023 pointer || ltb scale remote))
+badSetpoint cascade F setpoint pointer remote = (not cascade && ltb F setpoint) || (cascade && (ltb 1023 pointer || ltb F remote))
 
 -- O3: N7, of the tuning words and of a ramp/soak table; N8 by its groups, mode bits first, then a table's ramp ends; N9
 abbrev pub readingCases : Reading → ℕ → List Case
 readingCases r raw =
     let s = r .settings in
-    let scale = s .mode2 .input .scale in
+    let F = s .mode2 .input .scale in
+    let G = s .mode2 .output .scale in
     ((s .baddigit || r .program .baddigit) ⇒ Digit)
     ∷ (badModes (s .mode1) (s .mode2 .unused) (s .alarms .hysteresis) ⇒ Setting)
     ∷ (r .program .highend ⇒ Setting)
     ∷ (badTimes (s .tuning) ⇒ Setting)
-    ∷ (badLimits (s .limits) (s .mode2 .output .scale) ⇒ Setting)
-    ∷ (badSetpoint (isCascade (r .mode)) scale (s .stored .setpoint) (s .pointer) (r .remote) ⇒ Setting)
-    ∷ (ltb scale raw ⇒ Above)
+    ∷ (badLimits (s .limits) G ⇒ Setting)
+    ∷ (badSetpoint (isCascade (r .mode)) F (s .stored .setpoint) (s .pointer) (r .remote) ⇒ Setting)
+    ∷ (ltb F raw ⇒ Above)
     ∷ []
 
 -- N11: there is no major loop, or p is outside that loop's output limits

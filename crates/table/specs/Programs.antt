@@ -37,7 +37,7 @@ badDigitIn table = anyBelow 8 (λ i. badDigit (getD table (4 * i + 1) 0) || badD
 
 -- N8: one of the ramps ends above F
 unfoldable pub highEndIn : ℕ → List ℕ → Bool
-highEndIn scale table = anyBelow 8 (λ i. ltb scale (getD table (4 * i + 0) 0))
+highEndIn F table = anyBelow 8 (λ i. ltb F (getD table (4 * i + 0) 0))
 
 -- G2: no program: bit 11 is off, or the address not good
 unfoldable pub noProgram : ℕ → Program
@@ -51,7 +51,7 @@ noProgram fault = record {
 
 -- G1, G2: with bit 11 on and a good address the table is tested, and the pair of the carried segment read
 unfoldable pub programOf : List ℕ → Bool → ℕ → ℕ → ℕ → Program
-programOf words bit at scale segment =
+programOf words bit at F segment =
     let table = blockAt words at in
     let fault = faultOf at in
     cond bit
@@ -60,7 +60,7 @@ programOf words bit at scale segment =
       on = true;
       fault = fault;
       baddigit = badDigitIn table;
-      highend = highEndIn scale table;
+      highend = highEndIn F table;
       pair = pairAt table (pairNumber segment);
     })
     (noProgram fault))

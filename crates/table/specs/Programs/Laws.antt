@@ -84,6 +84,13 @@ module _ (words : List ℕ) (at scale segment : ℕ) where
   program-pair bit =
       by-program (λ (p : Program). p .on ≡ true → p .pair ≡ pairAt (blockAt words at) (pairNumber segment)) bit (λ fault e. let z : false ≡ true = e in cc) (λ _ _ _. refl)
 
+  -- its ends are tested against the scale
+  pub program-ends : (bit : Bool) → programOf words bit at scale segment .on ≡ true
+      → programOf words bit at scale segment .highend ≡ highEndIn scale (blockAt words at)
+  unfolding noProgram
+  program-ends bit =
+      by-program (λ (p : Program). p .on ≡ true → p .highend ≡ highEndIn scale (blockAt words at)) bit (λ fault e. let z : false ≡ true = e in cc) (λ _ _ _. refl)
+
   pub program-fault : (bit : Bool) → programOf words bit at scale segment .fault ≡ cond bit (faultOf at) 0
   unfolding programOf noProgram
   program-fault true = by-test (λ (p : Program). p .fault ≡ faultOf at) (eqb (faultOf at) 0) (λ _. refl) (λ _. refl)
