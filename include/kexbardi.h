@@ -121,7 +121,7 @@ enum kexbardi_mode_1 {
                                               setpoint and the major loop's output become the PV (A13) */
     KEXBARDI_M1_REVERSE = 0x0010,          /* the output rises with the PV; off: it falls as the PV rises (M1) */
     KEXBARDI_M1_VELOCITY = 0x0020,         /* velocity form; off: position form */
-    KEXBARDI_M1_ROOT = 0x0040,             /* the PV is the root of raw PV x full scale, to the nearest count (A1) */
+    KEXBARDI_M1_ROOT = 0x0040,             /* the PV is the root of raw PV x input's full scale, to the nearest count (A1) */
     KEXBARDI_M1_SQUARED = 0x0080,          /* error squared */
     KEXBARDI_M1_DEADBAND = 0x0100,         /* error deadband of KEXBARDI_DEADBAND */
     KEXBARDI_M1_FREEZE = 0x0400,           /* the bias is frozen while the output would pass a limit */
@@ -193,7 +193,7 @@ enum kexbardi_status {
 #define KEXBARDI_SEGMENT(n) (2 * ((n) - 1))
 
 enum kexbardi_ramp {
-    KEXBARDI_END = 0,      /* the setpoint at its end: binary, up to full scale (refusal 8) */
+    KEXBARDI_END = 0,      /* the setpoint at its end: binary, up to the input's full scale (refusal 8) */
     KEXBARDI_SLOPE = 1     /* BCD, hundredths of a count a second, up or down as the end lies; 0 ends the profile */
 };
 enum kexbardi_soak {
@@ -283,7 +283,7 @@ enum kexbardi_refusal {
     KEXBARDI_DIGIT = 7,    /* sample, forecast: period, gain, reset or rate has a digit above 9; or, with
                               KEXBARDI_M1_PROFILE on and a good address, a slope or duration of the table */
     KEXBARDI_SETTING = 8,  /* sample, forecast: a setting that is not allowed (N8 of MANUAL.md lists them) */
-    KEXBARDI_ABOVE = 9,    /* sample: the raw PV is above full scale */
+    KEXBARDI_ABOVE = 9,    /* sample: the raw PV is above the input's full scale */
     KEXBARDI_ROOM = 10,    /* kexbardi_setup: the room is shorter than the file */
     KEXBARDI_TRANSFER = 11 /* sample, forecast: from Automatic to Cascade with Bumpless I, and the pointer is no other
                               loop's output word, or the PV is outside that loop's output limits */

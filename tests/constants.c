@@ -845,6 +845,8 @@ static void full_scales(void) {
     equals("its own, 16 bits", KEXBARDI_OUTPUT_FULL_SCALE(0x2402), 65535);
     equals("its own, both bits", KEXBARDI_OUTPUT_FULL_SCALE(0x3400), 65535);
     equals("of two bits", KEXBARDI_OUTPUT_FULL_SCALE(0x0400 | 0x1000), 32767);
+    equals("of two bits of the input", KEXBARDI_OUTPUT_FULL_SCALE(0x0010 | 0x0002), 32767);
+    equals("of bit 10 and another", KEXBARDI_OUTPUT_FULL_SCALE(0x0400 | 0x0010), 4095);
     equals("in a difference", KEXBARDI_OUTPUT_FULL_SCALE(0x1400) - 1, 32766);
 }
 
