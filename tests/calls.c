@@ -575,11 +575,17 @@ static void settings_refused(void) {
         equals("forecast", forecast(1), settings[n].answer);
         equals("sample", sample(1, 1000), settings[n].answer);
     }
-    for (unsigned bit = 0; bit < 16; bit++) {
-        begin_loop_a("a bit of mode 2");
-        store(1, 1u << bit);
-        equals("sample", sample(1, 1000), bit == 1 || bit == 4 || bit == 8 || bit == 9 ? 0 : 8);
+    /* M2: every word of mode 2. Bits 0, 2, 3, 5 to 7, 11, 14 and 15 have to be off, and without bit 10 also 12 and 13. */
+    begin_loop_a("mode 2");
+    unsigned wrong = 0, accepted = 0;
+    for (unsigned mode_2 = 0; mode_2 < 65536; mode_2++) {
+        store(1, mode_2);
+        int refused = (mode_2 & 0xC8ED) != 0 || ((mode_2 & 0x0400) == 0 && (mode_2 & 0x3000) != 0);
+        wrong += sample(1, 1000) != (refused ? 8 : 0);
+        accepted += !refused;
     }
+    equals("words with another answer", wrong, 0);
+    equals("words that are accepted", accepted, 16 + 64); /* bits 1, 4, 8 and 9; these with 10, 12 and 13 */
     begin("from reset");
     equals("sample", sample(1, 0), 8);
 }
