@@ -135,7 +135,7 @@ enum kexbardi_mode_1 {
 /* Mode 2, word 1 (M2). Bit 8 is ignored; all others have to be off, and the last two without OUTPUT_FORMAT too
  * (refusal 8). */
 enum kexbardi_mode_2 {
-    KEXBARDI_M2_FIFTEEN_BITS = 0x0002,
+    KEXBARDI_M2_FIFTEEN_BITS = 0x0002,     /* of the input, and without OUTPUT_FORMAT of the output */
     KEXBARDI_M2_RESET_MINUTES = 0x0010,
     KEXBARDI_M2_SIXTEEN_BITS = 0x0200,     /* prevails over FIFTEEN_BITS; with neither, 12 bits */
     KEXBARDI_M2_OUTPUT_FORMAT = 0x0400,    /* the output has a format of its own, by the two below; off: the format above
@@ -254,9 +254,9 @@ enum kexbardi_field {
     KEXBARDI_FIELD_MODE = 0,
     KEXBARDI_FIELD_BIAS = 1,
     KEXBARDI_FIELD_OUTPUT = 2,
-    KEXBARDI_FIELD_LAST_PV = 3,
+    KEXBARDI_FIELD_LAST_PV = 3,  /* counts of the input, as the next */
     KEXBARDI_FIELD_PRIOR_PV = 4,
-    KEXBARDI_FIELD_ERROR = 5,
+    KEXBARDI_FIELD_ERROR = 5,    /* counts of the output */
     KEXBARDI_FIELD_VELOCITY = 6,
     KEXBARDI_FIELD_SAMPLED = 7,
     KEXBARDI_FIELD_SEGMENT = 8,

@@ -10,12 +10,12 @@ use lib.Signed.{_≤ℤ_}
 use lib.ListN.{getD}
 use borrow.Author.Tests.{lt-ltb}
 use Rattle.numbers.specs.Whole.{linear, abs}
-use Rattle.numbers.specs.Limits.{clampℤ}
+use Rattle.numbers.specs.Limits.{clampℕ, clampℤ}
 use Rattle.numbers.specs.Limits.Laws.{clamp-low, clamp-high}
 use Rattle.numbers.specs.Distances.{apart}
 use Rattle.numbers.specs.Rounding.{unitsOf, nearestCount}
 use Rattle.numbers.specs.Rounding.Laws.{half-up-high}
-use Rattle.numbers.specs.Fractions.{Fraction}
+use Rattle.numbers.specs.Fractions.{Fraction, whole}
 use Rattle.numbers.specs.Scales.{converted}
 use Rattle.numbers.specs.Scales.Laws.{converted-high, converted-mono, converted-tie, converted-near, converted-zero, converted-full, converted-same, converted-no-tie}
 use Rattle.refusals.specs.Refusals.{numberOf}
@@ -25,13 +25,21 @@ use Rattle.table.specs.declared.reading.Reading.{Reading}
 use Rattle.table.specs.Words.{bit, formatBy, baseOf, blockAt}
 use Rattle.table.specs.Words.Laws.{block-at, none-at, or-false}
 use Rattle.table.specs.Settings.{unusedBits, mode2Of, settingsOf}
-use Rattle.table.specs.Modes.{isManual, isCascade}
+use Rattle.table.specs.Modes.{isManual, isAutomatic, isCascade}
 use Rattle.table.specs.Programs.{highEndIn}
 use Rattle.table.specs.Programs.Laws.{program-ends}
 use Rattle.profile.specs.Flags.{flagsOf}
+use Rattle.profile.specs.Moves.{advancedBy}
 use Rattle.profile.specs.Samples.{sampledBy}
 use Rattle.table.specs.Reading.{tableOf, readingOf}
-use Rattle.table.specs.Reading.Laws.{limit-low, limit-high, output-scale}
+use Rattle.table.specs.Reading.Laws.{limit-low, limit-high, output-scale, no-transfer}
+use Rattle.control.specs.declared.terms.Inputs.{Inputs}
+use Rattle.control.specs.declared.terms.Terms.{Terms}
+use Rattle.control.specs.declared.forms.Drive.{Drive}
+use Rattle.control.specs.Terms.{exactTerms, termsOf}
+use Rattle.control.specs.Forms.{positionOf, velocityOf}
+use Rattle.carried.specs.declared.record.Past.{Past}
+use Rattle.table.specs.declared.settings.Settings.{Settings}
 use Rattle.control.specs.Counts.{outputCounts}
 use Rattle.control.specs.Errors.{inDeadband, squaredOver, errorOf}
 use Rattle.control.specs.Errors.Laws.{squared-toward-zero}
@@ -43,18 +51,19 @@ use Rattle.carried.specs.declared.record.State.{State}
 use Rattle.carried.specs.Layout.{recordAt}
 use Rattle.judging.specs.Judging.Laws.{limits-good}
 use Rattle.engine.specs.declared.sensing.Sensed.{Sensed}
-use Rattle.engine.specs.Sensing.{profiledOf, errorIn, sensedOf}
-use Rattle.engine.specs.Driving.{startOf, keptIn, pastOf, drivenOf}
+use Rattle.engine.specs.Sensing.{setpointOf, changed, runsOn, targetOf, profiledOf, errorIn, sensedOf}
+use Rattle.engine.specs.Driving.{heldOf, startOf, keptIn, pastOf, positionInputs, velocityInputs, inputsOf, termsIn, lowUnits, highUnits, movedIn, movedOf, drivenOf}
 use Rattle.engine.specs.Writing.{outputWord, biasWord, statusWord, writtenOf, nextOf}
 use Rattle.engine.specs.Steps.{stepOf}
-use Rattle.engine.specs.Steps.Laws.{drivable, sensed-scaled}
+use Rattle.engine.specs.Steps.Laws.{drivable, sensed-scaled, stepped-ranged}
 use Rattle.engine.proofs.Limits.{word-inside}
+use Rattle.plain.specs.Exact.{exactOutput, exactBias}
 use Rattle.plain.specs.Plain.{Plain, movedBy, plainAfter}
 use Rattle.plain.specs.Plain.Laws.{start-tied, sample-good}
 use Rattle.desk.specs.Desk.{Desk, readingAt, stepAt, sampleAnswer, sampleLeft}
 use Rattle.desk.specs.Desk.Laws.{sampled}
 use Rattle.claims.specs.Calls.{Settled}
-use Rattle.claims.specs.Formats.{Conversion, wordOf, inputFull, outputFull, fullBy, sensedAt, Readable, Refused, Counted, Errors, Compared, Formats}
+use Rattle.claims.specs.Formats.{Conversion, wordOf, inputFull, outputFull, fullBy, sensedAt, Readable, Refused, Counted, Errors, formed, formedAt, Compared, Formats}
 use Rattle.claims.proofs.Calls.{called}
 use Rattle.claims.proofs.Demand2.{demand-2}
 
@@ -129,6 +138,18 @@ module _ (d : Desk) (k : ℕ) where
   minutes : readingAt d k .settings .mode2 .minutes ≡ bit 4 (wordOf d k 1)
   unfolding mode2Of
   minutes = ap (λ (m : Mode2). m .minutes) mode2
+
+  output5 : readingAt d k .settings .stored .output ≡ wordOf d k 5
+  unfolding readingOf settingsOf
+  output5 = at 5 (lit< tt)
+
+  bias4 : readingAt d k .settings .stored .bias ≡ wordOf d k 4
+  unfolding readingOf settingsOf
+  bias4 = at 4 (lit< tt)
+
+  setpoint2 : readingAt d k .settings .stored .setpoint ≡ wordOf d k 2
+  unfolding readingOf settingsOf
+  setpoint2 = at 2 (lit< tt)
 
   stored : readingAt d k .settings .stored .status ≡ wordOf d k 6
   unfolding readingOf settingsOf
@@ -215,6 +236,27 @@ error-is : (r : Reading) (state : State) (raw : ℕ) → r .settings .mode2 .sep
 unfolding sensedOf errorIn inDeadband outputCounts
 error-is r state raw on = rw on
 
+-- A7 to A10 by the forms alone
+formed-by : (s : Settings) (manual : Bool) (drive : Drive) (past : Past) (p : ℕ) (e : ℤ)
+    → movedOf s manual drive past p e
+    ≡ cond manual drive (formed (s .tuning) (s .mode1) (s .mode2 .minutes) (s .limits .low) (s .limits .high) drive past p e)
+unfolding movedOf movedIn termsIn
+formed-by s manual drive past p e = go (s .mode1 .velocity)
+  where
+    go : (v : Bool) → let terms : Inputs → Terms = termsOf (s .tuning) (s .mode2 .minutes) (s .mode1 .reverse) in
+        cond manual drive
+        (cond v (velocityOf drive (terms (inputsOf v past p e)) (lowUnits s) (highUnits s))
+        (positionOf (s .mode1 .freeze) drive (terms (inputsOf v past p e)) (lowUnits s) (highUnits s)))
+        ≡ cond manual drive
+        (cond v (velocityOf drive (terms (velocityInputs past p e)) (lowUnits s) (highUnits s))
+        (positionOf (s .mode1 .freeze) drive (terms (positionInputs past p e)) (lowUnits s) (highUnits s)))
+    go true = refl
+    go false = refl
+
+formed-is : (d : Desk) (k : ℕ) (drive : Drive) (past : Past) (p : ℕ) (e : ℤ)
+    → movedOf (readingAt d k .settings) (isManual (readingAt d k .mode)) drive past p e ≡ formedAt d k drive past p e
+formed-is d k drive past p e = rw (← low d k, ← high d k) (formed-by (readingAt d k .settings) (isManual (readingAt d k .mode)) drive past p e)
+
 module _ (d : Desk) (k raw : ℕ) (on : bit 10 (wordOf d k 1) ≡ true) where
   abbrev x : Sensed
   x = sensedAt d k raw
@@ -243,8 +285,9 @@ module _ (d : Desk) (k raw : ℕ) (on : bit 10 (wordOf d k 1) ≡ true) where
   compared : Compared d k raw
   unfolding stepOf nextOf drivenOf startOf pastOf keptIn
   compared = record {
-    fresh = λ new. rw (new, pv);
-    later = λ old. rw (old, pv, counts d k on (recordAt (d .numbers) k .past .last), counts d k on (recordAt (d .numbers) k .past .prior), or-false (not (recordAt (d .numbers) k .sampled)) (x .entry) old .1);
+    fresh = λ new. rw (new, pv) (formed-is d k _ _ _ _);
+    later = λ old. rw (old, pv, counts d k on (recordAt (d .numbers) k .past .last), counts d k on (recordAt (d .numbers) k .past .prior), or-false (not (recordAt (d .numbers) k .sampled)) (x .entry) old .1)
+        (formed-is d k _ _ _ _);
   }
 
 -- ---- what is recorded, the status, and the plain loop
@@ -259,6 +302,28 @@ shown : (d : Desk) (k raw : ℕ) → numberOf (sampleAnswer d k raw) ≡ 0
     → (wordOf (sampleLeft d k raw) k 2 ≡ sensedAt d k raw .setpoint) × (wordOf (sampleLeft d k raw) k 3 ≡ sensedAt d k raw .pv)
 unfolding stepOf writtenOf
 shown d k raw e = let done = demand-2 .exact d k raw e in (done .setpoint, done .pv)
+
+forced-by : (a : Bool) (x y : ℕ) → cond (a && true) x y ≡ cond a x y
+forced-by true x y = refl
+forced-by false x y = refl
+
+taken : (d : Desk) (k raw : ℕ) → isCascade (readingAt d k .mode) ≡ false → readingAt d k .program .on ≡ false → let r = readingAt d k in
+    let change = changed (recordAt (d .numbers) k .state) (r .settings .mode1 .velocity) in
+    sensedAt d k raw .setpoint ≡ cond (change && isAutomatic (r .mode) && not (r .settings .mode1 .bumpless)) (sensedAt d k raw .pv) (wordOf d k 2)
+unfolding sensedOf profiledOf sampledBy advancedBy targetOf setpointOf runsOn
+taken d k raw outside off =
+    let c = recordAt (d .numbers) k .state in
+    rw (outside, off, no-transfer (d .words) k (c .mode) (c .profile .segment) outside)
+    (forced-by (changed c (readingAt d k .settings .mode1 .velocity) && isAutomatic (readingAt d k .mode) && not (readingAt d k .settings .mode1 .bumpless)) _ _
+    ∙ rw (setpoint2 d k))
+
+stayed : (d : Desk) (k raw : ℕ) → numberOf (sampleAnswer d k raw) ≡ 0
+    → (isManual (readingAt d k .mode) ≡ true → wordOf (sampleLeft d k raw) k 5 ≡ clampℕ (wordOf d k 5) (wordOf d k 24) (wordOf d k 25))
+    × ((isManual (readingAt d k .mode) || readingAt d k .settings .mode1 .velocity) ≡ true → wordOf (sampleLeft d k raw) k 4 ≡ wordOf d k 4)
+unfolding stepOf writtenOf outputWord biasWord heldOf
+stayed d k raw e =
+    let done = demand-2 .exact d k raw e in
+    (λ manual. done .output ∙ rw (manual, output5 d k, low d k, high d k), λ kept. done .bias ∙ rw kept (bias4 d k))
 
 outputs : (d : Desk) (k raw : ℕ) → numberOf (sampleAnswer d k raw) ≡ 0 → isManual (readingAt d k .mode) ≡ false → let drive = stepAt d k raw .carried .drive in
     (wordOf (sampleLeft d k raw) k 5 ≡ nearestCount (natAbs (drive .output)))
@@ -311,6 +376,24 @@ keeps : (r : Reading) (raw : ℕ) (q : Plain) → plainAfter q r raw .last ≡ s
 unfolding plainAfter
 keeps r raw q = kept-pv _ _ _ _ _ _
 
+exact-of : (n : ℕ) (q : Plain) (r : Reading) (x : Sensed) (start : Fraction) (last : ℕ) → let s = r .settings in
+    let after = movedBy n q r x start last in
+    let t = exactTerms (s .tuning) (s .mode2 .minutes) (s .mode1 .reverse) (record { p = x .error; i = x .error; d = pos (x .converted) -ℤ pos last }) in
+    0 < after .n → (after .output ≡ exactOutput (s .limits .low) (s .limits .high) start t) × (after .B ≡ exactBias (after .output) t)
+unfolding movedBy
+exact-of zero q r x start last above = absurd (omega arith)
+exact-of (suc n) q r x start last above = (refl, refl)
+
+exact : (r : Reading) (raw : ℕ) (q : Plain) → let s = r .settings in
+    let x = sensedOf r (q .state) raw in
+    let after = plainAfter q r raw in
+    let start = cond (x .entry) (whole (pos (heldOf s))) (q .B) in
+    let last = cond (x .entry) (x .converted) (outputCounts (s .mode2) (q .last)) in
+    let t = exactTerms (s .tuning) (s .mode2 .minutes) (s .mode1 .reverse) (record { p = x .error; i = x .error; d = pos (x .converted) -ℤ pos last }) in
+    0 < after .n → (after .output ≡ exactOutput (s .limits .low) (s .limits .high) start t) × (after .B ≡ exactBias (after .output) t)
+unfolding plainAfter
+exact r raw q above = exact-of _ _ _ _ _ _ above
+
 pub formats : Formats
 formats = record {
   conversion = conversion;
@@ -327,12 +410,15 @@ formats = record {
   errors = errors;
   compared = compared;
   records = recorded;
+  takes = taken;
   shows = shown;
+  stays = stayed;
   outputs = outputs;
   word6 = word6;
   word27 = word27;
   status = status;
   begins = start-tied;
-  accurate = λ r c raw q u g t. sample-good u g q t;
+  accurate = λ r c raw q u g t. let good = sample-good u g q t in (good .0, good .1, stepped-ranged u g);
+  exact = exact;
   keeps = keeps;
 }

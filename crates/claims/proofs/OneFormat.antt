@@ -2,7 +2,7 @@
 use Prim.Native.Nat.{ℕ, _+_}
 use mathlib.Core.Path.{_≡_, refl, sym, ap, _∙_}
 use mathlib.Core.Bool.{Bool, true, false, not, _||_, or-true}
-use mathlib.Core.List.{[], _∷_, _++_}
+use mathlib.Core.List.{List, [], _∷_, _++_}
 use lib.Dec.{lit<}
 use lib.IntN.{ℤ}
 use lib.ListN.{getD}
@@ -15,6 +15,7 @@ use Rattle.table.specs.Words.Laws.{block-at}
 use Rattle.table.specs.Settings.{mode2Of, settingsOf}
 use Rattle.refusals.specs.Refusals.{firstOf}
 use Rattle.table.specs.Modes.{isManual}
+use Rattle.table.specs.declared.mode.Mode.{Mode}
 use Rattle.table.specs.Transfers.{majorIn}
 use Rattle.judging.specs.Judging.{transferCases}
 use Rattle.table.specs.Reading.{readingOf}
@@ -61,11 +62,6 @@ mode2-read word off =
       unused = stray before (bit 11 word) (bit 12 word) (bit 13 word) (bit 14 word) (bit 15 word) i;
     })
 
-module _ (d : Desk) (k : ℕ) (off : bit 10 (getD (d .words) (baseOf k + 1) 0) ≡ false) where
-  read : readingAt d k .settings .mode2 ≡ mode2Then (getD (d .words) (baseOf k + 1) 0)
-  unfolding readingOf settingsOf
-  read = ap mode2Of (block-at (d .words) (baseOf k) 1 (lit< tt)) ∙ mode2-read (getD (d .words) (baseOf k + 1) 0) off
-
 -- ---- what is sensed, what moves the output, and what is written
 
 -- mode 2 of then: nothing is separate, and there is one full scale
@@ -78,6 +74,16 @@ as-then word e = record {
   separate = ap (λ (n : Mode2). n .separate) e;
   scale = ap (λ (n : Mode2). n .output .scale) e ∙ sym (ap (λ (n : Mode2). n .input .scale) e);
 }
+
+read : (ws : List ℕ) (k : ℕ) (former : Mode) (segment : ℕ) → bit 10 (getD ws (baseOf k + 1) 0) ≡ false
+    → readingOf ws k former segment .settings .mode2 ≡ mode2Then (getD ws (baseOf k + 1) 0)
+unfolding readingOf settingsOf
+read ws k former segment off = ap mode2Of (block-at ws (baseOf k) 1 (lit< tt)) ∙ mode2-read (getD ws (baseOf k + 1) 0) off
+
+read-at : (d : Desk) (k : ℕ) → bit 10 (getD (d .words) (baseOf k + 1) 0) ≡ false → Then (readingAt d k .settings .mode2)
+read-at d k off =
+    let c = recordAt (d .numbers) k .state in
+    as-then (getD (d .words) (baseOf k + 1) 0) (read (d .words) k (c .mode) (c .profile .segment) off)
 
 error-then : (s : Settings) → Then (s .mode2) → (target p : ℕ) → errorIn s target p ≡ errorThen s target p
 unfolding errorIn errorOf inDeadband
@@ -145,7 +151,7 @@ plain-then r t q raw =
 pub one-format : OneFormat
 one-format = record {
   mode2 = read;
-  answer = λ d k raw off. answer-then d k raw (as-then (getD (d .words) (baseOf k + 1) 0) (read d k off));
-  step = λ d k raw off. step-then (readingAt d k) (as-then (getD (d .words) (baseOf k + 1) 0) (read d k off)) (recordAt (d .numbers) k) raw;
+  answer = λ d k raw off. answer-then d k raw (read-at d k off);
+  step = λ d k raw off. step-then (readingAt d k) (read-at d k off) (recordAt (d .numbers) k) raw;
   plain = λ r word e q raw. plain-then r (as-then word e) q raw;
 }

@@ -1,6 +1,6 @@
 -- With bit 10 of mode 2 off every result is what it was before the output could have a format of its own (M7). What was is written here once more:
--- one full scale F, every bit of mode 2 above 9 refused, and nothing converted. What is not written here, and reads a full scale at all, reads F: A1, the
--- ramp ends of a profile, N9.
+-- one full scale F, every bit of mode 2 above 9 refused, and nothing converted. Not written once more are mode, entry, setpoint, profile, terms, forms,
+-- status and record, which read no full scale, and A1 and a profile's ramp ends, which read F.
 use Prim.Native.Nat.{ℕ, _+_}
 use mathlib.Core.Path.{_≡_}
 use mathlib.Core.Bool.{Bool, false, cond, not, _&&_, _||_}
@@ -16,7 +16,9 @@ use Rattle.refusals.specs.declared.Refusal.the-variants.{Digit, Setting, Above}
 use Rattle.refusals.specs.Refusals.{Case, _⇒_, firstOf}
 use Rattle.table.specs.Words.{bit, inputFormat, any, baseOf, clearRequests}
 use Rattle.table.specs.Modes.{isManual, isCascade}
+use Rattle.table.specs.declared.mode.Mode.{Mode}
 use Rattle.table.specs.Transfers.{majorIn}
+use Rattle.table.specs.Reading.{readingOf}
 use Rattle.judging.specs.Judging.{badModes, badTimes, badLimits, badSetpoint, transferCases}
 use Rattle.control.specs.declared.forms.Drive.{Drive}
 use Rattle.control.specs.Errors.{squaredOver}
@@ -134,8 +136,9 @@ casesThen r raw =
     ∷ []
 
 pub record OneFormat : Type 0 where
-  -- word 1 of a loop with bit 10 off is read as it was
-  pub mode2 : (d : Desk) (k : ℕ) → let word = getD (d .words) (baseOf k + 1) 0 in bit 10 word ≡ false → readingAt d k .settings .mode2 ≡ mode2Then word
+  -- word 1 of a loop with bit 10 off is read as it was, whatever mode and segment are carried, by the plain loop too
+  pub mode2 : (ws : List ℕ) (k : ℕ) (former : Mode) (segment : ℕ) → let word = getD ws (baseOf k + 1) 0 in
+      bit 10 word ≡ false → readingOf ws k former segment .settings .mode2 ≡ mode2Then word
   -- a sample of it is answered as it was, N5, N4 and N5 before and N11 behind
   pub answer : (d : Desk) (k raw : ℕ) → bit 10 (getD (d .words) (baseOf k + 1) 0) ≡ false → let r = readingAt d k in
       sampleAnswer d k raw
