@@ -237,8 +237,8 @@ enum kexbardi_fault {
  *   bias          -4,503,599,627,370,496    4,503,599,627,370,496   2^52 units
  *   output        0                         17,179,607,040          65,535 counts
  *   last PV       0                         65,535
- *   PV before it  0                         65,535
- *   last error    -65,535                   65,535
+ *   PV before it  0                         65,535                  both in counts of the input
+ *   last error    -65,535                   65,535                  in counts of the output
  *   velocity      0                         1                       the form of mode 1 then: 0 position, 1 velocity
  *   sampled       0                         1                       1 once a sample of the loop was accepted
  *   segment       0                         16                      of the profile; 0 for none
@@ -254,9 +254,9 @@ enum kexbardi_field {
     KEXBARDI_FIELD_MODE = 0,
     KEXBARDI_FIELD_BIAS = 1,
     KEXBARDI_FIELD_OUTPUT = 2,
-    KEXBARDI_FIELD_LAST_PV = 3,  /* counts of the input, as the next */
+    KEXBARDI_FIELD_LAST_PV = 3,
     KEXBARDI_FIELD_PRIOR_PV = 4,
-    KEXBARDI_FIELD_ERROR = 5,    /* counts of the output */
+    KEXBARDI_FIELD_ERROR = 5,
     KEXBARDI_FIELD_VELOCITY = 6,
     KEXBARDI_FIELD_SAMPLED = 7,
     KEXBARDI_FIELD_SEGMENT = 8,
