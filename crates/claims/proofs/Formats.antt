@@ -15,7 +15,7 @@ use Rattle.numbers.specs.Limits.Laws.{clamp-low, clamp-high}
 use Rattle.numbers.specs.Distances.{apart}
 use Rattle.numbers.specs.Rounding.{unitsOf, nearestCount}
 use Rattle.numbers.specs.Rounding.Laws.{half-up-high}
-use Rattle.numbers.specs.Fractions.{Fraction, whole}
+use Rattle.numbers.specs.Fractions.{Fraction}
 use Rattle.numbers.specs.Scales.{converted}
 use Rattle.numbers.specs.Scales.Laws.{converted-high, converted-mono, converted-tie, converted-near, converted-zero, converted-full, converted-same, converted-no-tie}
 use Rattle.refusals.specs.Refusals.{numberOf}
@@ -63,7 +63,7 @@ use Rattle.plain.specs.Plain.Laws.{start-tied, sample-good}
 use Rattle.desk.specs.Desk.{Desk, readingAt, stepAt, sampleAnswer, sampleLeft}
 use Rattle.desk.specs.Desk.Laws.{sampled}
 use Rattle.claims.specs.Calls.{Settled}
-use Rattle.claims.specs.Formats.{Conversion, wordOf, inputFull, outputFull, fullBy, sensedAt, Readable, Refused, Counted, Errors, formed, formedAt, Compared, Formats}
+use Rattle.claims.specs.Formats.{Conversion, wordOf, inputFull, outputFull, fullBy, sensedAt, Readable, Refused, Counted, Errors, formed, formedAt, Compared, StatusLeft, ExactBy, Formats}
 use Rattle.claims.proofs.Calls.{called}
 use Rattle.claims.proofs.Demand2.{demand-2}
 
@@ -335,12 +335,7 @@ outputs d k raw e automatic =
     (done .output ∙ rw automatic, λ position. done .bias ∙ rw (automatic, position))
 
 -- the status before the sample is word 6, and of what it sees words 2, 3 and 5 are left
-word6 : (d : Desk) (k raw : ℕ) → numberOf (sampleAnswer d k raw) ≡ 0 → let after : ℕ → ℕ = wordOf (sampleLeft d k raw) k in
-    let s = readingAt d k .settings in
-    let c = recordAt (d .numbers) k in
-    after 6
-    ≡ statusBits (bitsOf (statusOf (readingAt d k .mode) (s .mode1) (s .alarms) (s .limits) (wordOf d k 6)
-    (record { pv = after 3; setpoint = after 2; last = c .past .last; sampled = c .sampled; output = after 5 })))
+word6 : (d : Desk) (k raw : ℕ) → numberOf (sampleAnswer d k raw) ≡ 0 → StatusLeft d k raw
 unfolding stepOf writtenOf statusWord
 word6 d k raw e =
     let done = demand-2 .exact d k raw e in
@@ -384,13 +379,7 @@ unfolding movedBy
 exact-of zero q r x start last above = absurd (omega arith)
 exact-of (suc n) q r x start last above = (refl, refl)
 
-exact : (r : Reading) (raw : ℕ) (q : Plain) → let s = r .settings in
-    let x = sensedOf r (q .state) raw in
-    let after = plainAfter q r raw in
-    let start = cond (x .entry) (whole (pos (heldOf s))) (q .B) in
-    let last = cond (x .entry) (x .converted) (outputCounts (s .mode2) (q .last)) in
-    let t = exactTerms (s .tuning) (s .mode2 .minutes) (s .mode1 .reverse) (record { p = x .error; i = x .error; d = pos (x .converted) -ℤ pos last }) in
-    0 < after .n → (after .output ≡ exactOutput (s .limits .low) (s .limits .high) start t) × (after .B ≡ exactBias (after .output) t)
+exact : (r : Reading) (raw : ℕ) (q : Plain) → ExactBy q r raw
 unfolding plainAfter
 exact r raw q above = exact-of _ _ _ _ _ _ above
 

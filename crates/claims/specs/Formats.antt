@@ -138,6 +138,27 @@ pub record Compared (d : Desk) (k raw : ℕ) : Type 0 where
       ≡ formedAt d k (c .drive) (record { last = converted F G (c .past .last); prior = converted F G (c .past .prior); error = c .past .error })
       (converted F G (x .pv)) (x .error)
 
+-- B1 to B8: word 6 after a sample, by words 2, 3 and 5 after it and the carried last PV
+abbrev pub StatusLeft : Desk → ℕ → ℕ → Type 0
+StatusLeft d k raw =
+    let after : ℕ → ℕ = wordOf (sampleLeft d k raw) k in
+    let s = readingAt d k .settings in
+    let c = recordAt (d .numbers) k in
+    after 6
+    ≡ statusBits (bitsOf (statusOf (readingAt d k .mode) (s .mode1) (s .alarms) (s .limits) (wordOf d k 6)
+    (record { pv = after 3; setpoint = after 2; last = c .past .last; sampled = c .sampled; output = after 5 })))
+
+-- E5: where n is above 0 after a sample, the exact output and B
+abbrev pub ExactBy : Plain → Reading → ℕ → Type 0
+ExactBy q r raw =
+    let s = r .settings in
+    let x = sensedOf r (q .state) raw in
+    let after = plainAfter q r raw in
+    let start = cond (x .entry) (whole (pos (heldOf s))) (q .B) in
+    let last = cond (x .entry) (x .converted) (outputCounts (s .mode2) (q .last)) in
+    let t = exactTerms (s .tuning) (s .mode2 .minutes) (s .mode1 .reverse) (record { p = x .error; i = x .error; d = pos (x .converted) -ℤ pos last }) in
+    0 < after .n → (after .output ≡ exactOutput (s .limits .low) (s .limits .high) start t) × (after .B ≡ exactBias (after .output) t)
+
 pub record Formats : Type 0 where
   -- M7: for any full scales; those of a loop meet no half
   pub conversion : (F G : ℕ) → 0 < F → 0 < G → Conversion F G
@@ -180,12 +201,7 @@ pub record Formats : Type 0 where
       × (readingAt d k .settings .mode1 .velocity ≡ false
       → wordOf (sampleLeft d k raw) k 4 ≡ nearestCount (natAbs (clampℤ (drive .bias) (pos 0) (pos (unitsOf (outputFull d k))))))
   -- B1 to B8: the status is that of words 2, 3 and 5 as they are left, and of the carried last PV: nothing is converted
-  pub word6 : (d : Desk) (k raw : ℕ) → numberOf (sampleAnswer d k raw) ≡ 0 → let after : ℕ → ℕ = wordOf (sampleLeft d k raw) k in
-      let s = readingAt d k .settings in
-      let c = recordAt (d .numbers) k in
-      after 6
-      ≡ statusBits (bitsOf (statusOf (readingAt d k .mode) (s .mode1) (s .alarms) (s .limits) (wordOf d k 6)
-      (record { pv = after 3; setpoint = after 2; last = c .past .last; sampled = c .sampled; output = after 5 })))
+  pub word6 : (d : Desk) (k raw : ℕ) → numberOf (sampleAnswer d k raw) ≡ 0 → StatusLeft d k raw
   -- G10: so is a profile's word 27 that of words 2 and 3
   pub word27 : (d : Desk) (k raw : ℕ) → numberOf (sampleAnswer d k raw) ≡ 0 → isCascade (readingAt d k .mode) ≡ false → readingAt d k .program .on ≡ true
       → let after : ℕ → ℕ = wordOf (sampleLeft d k raw) k in
@@ -201,11 +217,5 @@ pub record Formats : Type 0 where
       → Good (stepOf r c raw .written .output) (r .settings .limits .low) (r .settings .limits .high) (plainAfter q r raw)
       × Tied (stepOf r c raw .carried) (plainAfter q r raw) × Ranged (stepOf r c raw .carried)
   -- E5: the exact loop's terms are of the converted p and last PV and of the error, all whole; it keeps p in counts of the input
-  pub exact : (r : Reading) (raw : ℕ) (q : Plain) → let s = r .settings in
-      let x = sensedOf r (q .state) raw in
-      let after = plainAfter q r raw in
-      let start = cond (x .entry) (whole (pos (heldOf s))) (q .B) in
-      let last = cond (x .entry) (x .converted) (outputCounts (s .mode2) (q .last)) in
-      let t = exactTerms (s .tuning) (s .mode2 .minutes) (s .mode1 .reverse) (record { p = x .error; i = x .error; d = pos (x .converted) -ℤ pos last }) in
-      0 < after .n → (after .output ≡ exactOutput (s .limits .low) (s .limits .high) start t) × (after .B ≡ exactBias (after .output) t)
+  pub exact : (r : Reading) (raw : ℕ) (q : Plain) → ExactBy q r raw
   pub keeps : (r : Reading) (raw : ℕ) (q : Plain) → plainAfter q r raw .last ≡ sensedOf r (q .state) raw .pv
