@@ -113,18 +113,26 @@ static uint8_t table_refusal(const uint16_t *table, unsigned full) {
     return wrong ? 7 : above ? 8 : 0;
 }
 
-/* N8: setpoints are in counts of the input, limits in counts of the output */
-static int setting_refused(const uint16_t *words, const uint16_t *w, const struct reading *r) {
+/* N8, but for a table's ends: bits of either mode, and a hysteresis that alarms would go by */
+static int setting_refused(const uint16_t *w) {
     unsigned m = w[0];
-    int period = r->tuning[0], reset = r->tuning[2];
-    if (period < 5 || reset == 0 || w[24] > w[25] || w[25] > r->out_full) return 1;
     if ((bit(m, 5) && bit(m, 3)) || bit(m, 9) || bits_refused(w[1])) return 1;
-    if ((bit(m, 12) || bit(m, 13)) && (w[18] < 1 || w[18] > 200)) return 1;
+    return (bit(m, 12) || bit(m, 13)) && (w[18] < 1 || w[18] > 200);
+}
+
+/* N12: hundredths of a second, and of a second or a minute */
+static int times_refused(const struct reading *r) { return r->tuning[0] < 5 || r->tuning[2] == 0; }
+
+/* N13, in counts of the output */
+static int limits_refused(const uint16_t *w, const struct reading *r) { return w[24] > w[25] || w[25] > r->out_full; }
+
+/* N14, in counts of the input */
+static int setpoint_refused(const uint16_t *words, const uint16_t *w, const struct reading *r) {
     if (r->mode != CASCADE) return w[2] > r->in_full;
     return w[26] > 1023 || words[w[26]] > r->in_full;
 }
 
-/* N5 of the record, N7, N8, N9: the refusal, or 0 and the reading */
+/* N5 of the record, N7, N8, N12, N13, N14, N9: the first that holds, or 0 and the reading */
 static inline uint8_t judge(const uint16_t *words, const uint16_t *w, const struct carried *c, uint64_t raw, struct reading *r) {
     if (out_of_range(c)) return 5;
     for (int n = 0; n < 4; n++) {
@@ -136,8 +144,11 @@ static inline uint8_t judge(const uint16_t *words, const uint16_t *w, const stru
     r->mode = mode_of(w[0], (enum mode)c->mode);
     r->table = table_of(words, w);
     uint8_t refusal = r->table ? table_refusal(r->table, r->in_full) : 0;
-    if (refusal == 7) return 7;
-    if (refusal == 8 || setting_refused(words, w, r)) return 8;
+    if (refusal) return refusal;
+    if (setting_refused(w)) return 8;
+    if (times_refused(r)) return 12;
+    if (limits_refused(w, r)) return 13;
+    if (setpoint_refused(words, w, r)) return 14;
     return raw > r->in_full ? 9 : 0;
 }
 

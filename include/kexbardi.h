@@ -269,24 +269,45 @@ enum kexbardi_field {
 
 enum kexbardi_mode { KEXBARDI_MANUAL = 0, KEXBARDI_AUTOMATIC = 1, KEXBARDI_CASCADE = 2 };
 
-/* ---- the refusals (N1 to N11), but for 10 by the numbers that instructors know from drill files */
+/* ---- the refusals (N1 to N14), but for 10 by the numbers that instructors know from drill files
+ *
+ * Each has the words that cause it, and what the instructor does. A sample tests 7, 8, 12, 13, 14, 9 and 11 in this order (O3),
+ * a forecast all but 9; the first that holds is the answer, so behind a cause that is put right another may stand. */
 
 enum kexbardi_refusal {
     KEXBARDI_ACCEPTED = 0,
-    KEXBARDI_CUT = 1,      /* file: it ends inside a record, which is its last */
-    KEXBARDI_KIND = 2,     /* file: a record of no kind, or of one that is unknown */
-    KEXBARDI_LENGTH = 3,   /* file: a record whose length its kind does not have */
-    KEXBARDI_LOOP = 4,     /* no loop of that number: loops are 1 to 16 */
-    KEXBARDI_MEMORY = 5,   /* the lent memory does not have its length, or a number of the loop's record is out
-                              of range; of kexbardi_print: the room is too short */
-    KEXBARDI_STORE = 6,    /* store: the address is above 1,023, or that word is not the caller's to store */
-    KEXBARDI_DIGIT = 7,    /* sample, forecast: period, gain, reset or rate has a digit above 9; or, with
-                              KEXBARDI_M1_PROFILE on and a good address, a slope or duration of the table */
-    KEXBARDI_SETTING = 8,  /* sample, forecast: a setting that is not allowed (N8 of MANUAL.md lists them) */
-    KEXBARDI_ABOVE = 9,    /* sample: the raw PV is above the input's full scale */
-    KEXBARDI_ROOM = 10,    /* kexbardi_setup: the room is shorter than the file */
-    KEXBARDI_TRANSFER = 11 /* sample, forecast: from Automatic to Cascade with Bumpless I, and the pointer is no other
-                              loop's output word, or the PV is outside that loop's output limits */
+    KEXBARDI_CUT = 1,      /* file: it ends inside a record, which is its last. Get the file again */
+    KEXBARDI_KIND = 2,     /* file: a record of no kind, or of one that is unknown. Mend the program that made it */
+    KEXBARDI_LENGTH = 3,   /* file: a record whose length its kind does not have. The same */
+    KEXBARDI_LOOP = 4,     /* no loop of that number. Loops are 1 to 16 */
+    KEXBARDI_MEMORY = 5,   /* the lent memory does not have its length; of kexbardi_print: the room is too short. Mend the
+                              program. Or a number of the loop's record is out of range. Load another save, reset the
+                              desk, or zero that record */
+    KEXBARDI_STORE = 6,    /* store: the address is above 1,023, or is word 3, 4, 6 or 29 of a loop. Store elsewhere */
+    KEXBARDI_DIGIT = 7,    /* sample, forecast: word 7, 8, 9 or 10, period, gain, reset and rate, has a digit above 9; or,
+                              with KEXBARDI_M1_PROFILE on and a good address in word 28, a slope or duration of the table.
+                              Write BCD */
+    KEXBARDI_SETTING = 8,  /* sample, forecast: word 0 has KEXBARDI_M1_VELOCITY with KEXBARDI_M1_BUMPLESS_II, or bit 9. Take
+                              one of the two off, or bit 9.
+                              Word 1 has a bit that has no use, or the output's bits 12 or 13 without
+                              KEXBARDI_M2_OUTPUT_FORMAT. Take it off, or put that bit on.
+                              Word 18, the hysteresis, is not 1 to 200 while KEXBARDI_M1_PV_ALARMS or
+                              KEXBARDI_M1_DEVIATION_ALARMS is on. Set it, or take the alarms off.
+                              With KEXBARDI_M1_PROFILE on and a good address in word 28, a ramp of the table ends above the
+                              input's full scale. Lower that end */
+    KEXBARDI_ABOVE = 9,    /* sample: the raw PV is above the input's full scale, by word 1. Bring transmitter and word 1
+                              together */
+    KEXBARDI_ROOM = 10,    /* kexbardi_setup: the room is shorter than the file. Lend KEXBARDI_SETUP_ROOM bytes */
+    KEXBARDI_TRANSFER = 11, /* sample, forecast: from Automatic to Cascade with Bumpless I, and word 26, the pointer, is no
+                              other loop's output word, or the PV is below word 24 or above word 25 of that loop. Point
+                              there; bring the PV inside those limits, or widen them; or go by way of Manual */
+    KEXBARDI_SETTING_TIMES = 12,   /* sample, forecast: word 7, the period, is below 0.05 s, or word 9, the reset time, is 0.
+                              Set both: at reset they are 0. For no reset action store KEXBARDI_RESET_OFF */
+    KEXBARDI_SETTING_LIMITS = 13,  /* sample, forecast: word 24, the low output limit, is above word 25, the high one, or
+                              word 25 above the output's full scale. Set both */
+    KEXBARDI_SETTING_SETPOINT = 14 /* sample, forecast: outside Cascade word 2, the setpoint, is above the input's full
+                              scale. Lower it. In Cascade word 26 is above 1,023, or the word that it names is above the
+                              input's full scale. Point elsewhere, or bring that word down */
 };
 
 /* ---- the functions (Q1 to Q13) */
@@ -318,8 +339,8 @@ enum kexbardi_line {
 
 /* One sample of a loop, 1 to 16, with a raw PV (A1 to A13).
  * Answers the first of these that holds: 5 for words_length not 1,024 or records_length not 224; 4 for no
- * such loop; 5 where a number of the loop's record is out of range; 7, 8, 9, 11. Else 0: words 0, 2, 3, 5 and 6
- * of the loop, word 4 too in position form outside Manual, words 27 and 29 too outside Cascade, its record and
+ * such loop; 5 where a number of the loop's record is out of range; 7, 8, 12, 13, 14, 9, 11. Else 0: words 0, 2, 3, 5
+ * and 6 of the loop, word 4 too in position form outside Manual, words 27 and 29 too outside Cascade, its record and
  * the line are written, and nothing else but at a transfer, from Automatic to Cascade with Bumpless I: then the PV
  * is written to the output word that the pointer names, and 1 to that loop's KEXBARDI_FIELD_MARK (A13). Other
  * loops' records are not looked at, and may hold anything. */
@@ -337,8 +358,8 @@ uint8_t kexbardi_record(const int64_t *records, size_t records_length, uint64_t 
  * profile runs: KEXBARDI_M1_PROFILE off, a table address that is a fault, segment 0 in the record. It is computed at
  * once, however long the profile is.
  * Answers what kexbardi_sample answers to raw PV 0: 5 for words_length not 1,024 or records_length not 224; 4 for no
- * such loop; 5 where a number of the loop's record is out of range; 7, 8, 11; `samples` stays then. Else 0, and `samples`
- * has the number. Words and records stay in any case. */
+ * such loop; 5 where a number of the loop's record is out of range; 7, 8, 12, 13, 14, 11; `samples` stays then. Else 0,
+ * and `samples` has the number. Words and records stay in any case. */
 uint8_t kexbardi_forecast(const uint16_t *words, size_t words_length, const int64_t *records, size_t records_length,
     uint64_t loop, uint64_t *samples);
 

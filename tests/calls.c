@@ -200,6 +200,10 @@ static void file_sample(unsigned loop, unsigned raw) { pair(5), pair(2), byte(lo
 
 static const uint16_t loop_a_stores[6][2] = {{5, 2000}, {25, 4095}, {7, 256}, {8, 512}, {9, 4096}, {0, 2}};
 
+static void file_loop_a(void) {
+    for (int n = 0; n < 6; n++) file_store(loop_a_stores[n][0], loop_a_stores[n][1]);
+}
+
 /* a desk at reset with loop A's settings in one of its loops */
 static void settle(unsigned loop) {
     for (unsigned n = 0; n < 6; n++)
@@ -417,14 +421,14 @@ static void cascade(void) {
     }
     begin_loop_a("cascade: what is not allowed");
     store(0, 4), store(26, 1024);
-    equals("pointer 1,024", sample(1, 1000), 8);
+    equals("pointer 1,024", sample(1, 1000), 14);
     store(1, 512);
     for (unsigned pointer = 1024; pointer < 1024 + GUARD; pointer++) {
         store(26, pointer);
-        equals("pointer above 1,023, 16 bits", sample(1, 1000), 8);
+        equals("pointer above 1,023, 16 bits", sample(1, 1000), 14);
     }
     store(1, 0), store(26, 600), store(600, 4096);
-    equals("word above full scale", sample(1, 1000), 8);
+    equals("word above full scale", sample(1, 1000), 14);
     store(600, 4095), store(2, 4096);
     equals("word 2 does not count", sample(1, 1000), 0);
     equals("setpoint", line[KEXBARDI_LINE_SETPOINT], 4095);
@@ -470,27 +474,76 @@ static void lengths(void) {
     equals("the right lengths", forecast_of(word_counts[0], number_counts[0], 1), 0);
 }
 
-/* All 128 sums of these faults in one sample of loop A, from Automatic to Cascade: 1,023 words lent, no such loop, a number of
- * the record out of range, a digit above 9, a setting, a raw PV above full scale, a pointer to no output. The first that holds is
- * answered; a forecast has no raw PV. */
+/* What can be wrong with one sample of loop A, in the order of testing: 1,023 words lent, no such loop, a number of the record out of
+ * range, a digit above 9, a mode bit, hysteresis or table end, a time, an output limit, the setpoint, the raw PV, a transfer to no
+ * output. */
+enum fault { WORDS, LOOP, RECORD, DIGIT, SETTING, TIMES, LIMITS, SETPOINT, RAW, TRANSFER, FAULTS };
+static const uint8_t fault_numbers[FAULTS + 1] = {KEXBARDI_MEMORY, KEXBARDI_LOOP, KEXBARDI_MEMORY, KEXBARDI_DIGIT, KEXBARDI_SETTING,
+    KEXBARDI_SETTING_TIMES, KEXBARDI_SETTING_LIMITS, KEXBARDI_SETTING_SETPOINT, KEXBARDI_ABOVE, KEXBARDI_TRANSFER, KEXBARDI_ACCEPTED};
+
+static int has(unsigned faults, enum fault fault) { return (faults >> fault & 1) != 0; }
+
+/* the number of the first */
+static uint8_t first_of(unsigned faults) {
+    unsigned first = 0;
+    while (first < FAULTS && !(faults >> first & 1)) first++;
+    return fault_numbers[first];
+}
+
+/* A word of loop 1 or of its table that makes a number hold; each of a number's is taken in some of the turns. */
+static const uint16_t wrong_digits[2][2] = {{KEXBARDI_GAIN, 0x000a}, {512 + KEXBARDI_SLOPE, 0x000a}};
+static const uint16_t wrong_settings[5][2] = {{KEXBARDI_MODE_1, 512}, {KEXBARDI_MODE_2, 1}, {KEXBARDI_MODE_2, 0x1000},
+    {KEXBARDI_HYSTERESIS, 0}, {512 + KEXBARDI_END, 4096}};
+static const uint16_t wrong_times[2][2] = {{KEXBARDI_PERIOD, 4}, {KEXBARDI_RESET, 0}};
+static const uint16_t wrong_limits[2][2] = {{KEXBARDI_OUTPUT_LOW, 4096}, {KEXBARDI_OUTPUT_HIGH, 4096}};
+
+static void write_wrong(const uint16_t wrong[2]) {
+    if (wrong[0] == KEXBARDI_MODE_1) words[KEXBARDI_MODE_1] |= wrong[1];
+    else words[wrong[0]] = wrong[1];
+}
+
+/* Loop A in Automatic, all alarms watched, with a table, about to stay there or to change to Manual or Cascade, with these faults. */
+static void order_words(unsigned turn, unsigned faults, unsigned request) {
+    const unsigned pointer = KEXBARDI_ADDRESS(2, has(faults, TRANSFER) ? KEXBARDI_BIAS : KEXBARDI_OUTPUT);
+    words[KEXBARDI_MODE_1] = (uint16_t)(0x7800 | request), words[KEXBARDI_HYSTERESIS] = 10, words[KEXBARDI_PROFILE_TABLE] = 512;
+    words[KEXBARDI_POINTER] = (uint16_t)pointer, words[KEXBARDI_ADDRESS(2, KEXBARDI_OUTPUT_HIGH)] = 4095;
+    if (has(faults, RECORD)) memset(records, 0xff, KEXBARDI_NUMBERS * sizeof *records);
+    if (has(faults, DIGIT)) write_wrong(wrong_digits[turn / 3 % 2]);
+    if (has(faults, SETTING)) write_wrong(wrong_settings[turn % 5]);
+    if (has(faults, TIMES)) write_wrong(wrong_times[turn % 2]);
+    if (has(faults, LIMITS)) write_wrong(wrong_limits[turn / 2 % 2]);
+    if (!has(faults, SETPOINT)) return;
+    if (request != 4) words[KEXBARDI_SETPOINT] = 4096;
+    else if (turn % 2) words[pointer] = 4096;
+    else words[KEXBARDI_POINTER] = 1024;
+}
+
+/* A sample, a forecast, which has no raw PV, and a sample in a file: each answers the first fault. */
+static void order_of(unsigned faults) {
+    const struct lent kept = lent;
+    const size_t length = has(faults, WORDS) ? 1023 : 1024;
+    const unsigned loop = has(faults, LOOP) ? 17 : 1, raw = has(faults, RAW) ? 4096 : 1000;
+    equals("forecast", forecast_of(length, 224, loop), first_of(faults & ~(1u << RAW)));
+    equals("sample", sample_of(length, 224, loop, raw), first_of(faults));
+    lent = kept;
+    size = 0, file_sample(loop, raw);
+    equals("run", run_of(length, 224, ANSWERS), has(faults, WORDS) ? 5 : 0);
+    if (!has(faults, WORDS)) equals("a sample in a file", answers[0], first_of(faults));
+}
+
+/* All sums of the faults in each mode; outside Cascade without the last, and 11 is never the answer. */
 static void order(void) {
-    static const uint8_t numbers[] = {KEXBARDI_MEMORY, KEXBARDI_LOOP, KEXBARDI_MEMORY, KEXBARDI_DIGIT, KEXBARDI_SETTING,
-        KEXBARDI_ABOVE, KEXBARDI_TRANSFER, KEXBARDI_ACCEPTED};
-    for (unsigned faults = 0; faults < 128; faults++) {
+    static const unsigned requests[3] = {1, 2, 4};
+    for (unsigned turn = 0; turn < 15; turn++) {
         begin_loop_a("order of refusals");
         equals("entry", sample(1, 1000), 0);
-        unsigned first = 0, of_forecast = 0;
-        while (first < 7 && !(faults >> first & 1)) first++;
-        while (of_forecast < 7 && !((faults & ~32u) >> of_forecast & 1)) of_forecast++;
-        words[KEXBARDI_MODE_1] = 4, words[KEXBARDI_ADDRESS(2, KEXBARDI_OUTPUT_HIGH)] = 4095;
-        words[KEXBARDI_POINTER] = (uint16_t)KEXBARDI_ADDRESS(2, faults & 64 ? KEXBARDI_BIAS : KEXBARDI_OUTPUT);
-        if (faults & 4) memset(records, 0xff, KEXBARDI_NUMBERS * sizeof *records);
-        if (faults & 8) words[KEXBARDI_GAIN] = 0x000a;
-        if (faults & 16) words[KEXBARDI_RESET] = 0;
-        const size_t length = faults & 1 ? 1023 : 1024;
-        const unsigned loop = faults & 2 ? 17 : 1;
-        equals("forecast", forecast_of(length, 224, loop), numbers[of_forecast]);
-        equals("sample", sample_of(length, 224, loop, faults & 32 ? 4096 : 1000), numbers[first]);
+        const struct lent kept = lent;
+        const unsigned request = requests[turn % 3], sums = 1u << (request == 4 ? FAULTS : TRANSFER);
+        for (unsigned faults = 0; faults < sums; faults++) {
+            lent = kept;
+            order_words(turn, faults, request);
+            order_of(faults);
+        }
     }
 }
 
@@ -529,7 +582,7 @@ static void stores(void) {
     for (size_t n = 0; n < sizeof far_off / sizeof *far_off; n++) equals("above 1,023", store(far_off[n], 7), 6);
 }
 
-/* 7: each digit of words 7 to 10; 8: each setting; 9: a raw PV above each full scale */
+/* 7: each digit of words 7 to 10; 8, 12, 13 and 14: each setting; 9: a raw PV above each full scale */
 static void digits(void) {
     begin_loop_a("digits");
     for (unsigned word = KEXBARDI_PERIOD; word <= KEXBARDI_RATE; word++)
@@ -545,36 +598,147 @@ static void digits(void) {
     equals("all digits 9", sample(1, 1000), 0);
 }
 
+/* Loop A with mode 1, without its request, and three stores: what a sample answers in some modes or in all. */
+enum { IN_MANUAL = 1, IN_AUTOMATIC = 2, IN_CASCADE = 4, OUTSIDE = IN_MANUAL | IN_AUTOMATIC, IN_ALL = OUTSIDE | IN_CASCADE };
 struct setting {
     const char *name;
-    uint16_t stores[3][2], answer;
+    uint16_t mode_1, stores[3][2], answer, modes;
 };
 
-static const struct setting settings[] = {
-    {"period 0.04 s", {{7, 4}, SAME, SAME}, 8}, {"period 0.05 s", {{7, 5}, SAME, SAME}, 0}, {"period 0", {{7, 0}, SAME, SAME}, 8},
-    {"reset 0", {{9, 0}, SAME, SAME}, 8}, {"reset 0.01", {{9, 1}, SAME, SAME}, 0},
-    {"low above high", {{24, 2001}, {25, 2000}, SAME}, 8}, {"low equals high", {{24, 2000}, {25, 2000}, SAME}, 0},
-    {"high above full scale", {{25, 4096}, SAME, SAME}, 8}, {"high 4,096 in 15 bits", {{25, 4096}, {1, 2}, SAME}, 0},
-    {"high 32,768 in 15 bits", {{25, 32768}, {1, 2}, SAME}, 8}, {"high 65,535 in 16 bits", {{25, 65535}, {1, 512}, SAME}, 0},
-    {"velocity with Bumpless II", {{0, 2 | 8 | 32}, SAME, SAME}, 8}, {"velocity", {{0, 2 | 32}, SAME, SAME}, 0},
-    {"Bumpless II", {{0, 2 | 8}, SAME, SAME}, 0}, {"the same in Manual", {{0, 1 | 8 | 32}, SAME, SAME}, 8},
-    {"mode 1 bit 9", {{0, 2 | 512}, SAME, SAME}, 8}, {"mode 1 bit 11", {{0, 2 | 2048}, SAME, SAME}, 0},
-    {"mode 1 bit 15", {{0, 2 | 32768}, SAME, SAME}, 0}, {"mode 1 bits 9 and 11", {{0, 2 | 512 | 2048}, SAME, SAME}, 8},
-    {"mode 2 bits 1, 4, 8, 9", {{1, 0x312}, SAME, SAME}, 0}, {"hysteresis 0, not watched", {{18, 0}, {0, 2 | 16384}, SAME}, 0},
-    {"hysteresis 0, PV watched", {{18, 0}, {0, 2 | 4096}, SAME}, 8}, {"hysteresis 1, PV watched", {{18, 1}, {0, 2 | 4096}, SAME}, 0},
-    {"hysteresis 200, deviation", {{18, 200}, {0, 2 | 8192}, SAME}, 0}, {"hysteresis 201", {{18, 201}, {0, 2 | 8192}, SAME}, 8},
-    {"setpoint above full scale", {{2, 4096}, SAME, SAME}, 8}, {"setpoint at full scale", {{2, 4095}, SAME, SAME}, 0},
-    {"setpoint above, in Manual", {{2, 4096}, {0, 1}, SAME}, 8}, {"setpoint above, in Cascade", {{2, 4096}, {0, 4}, {26, 600}}, 0},
-    {"7 before 8", {{8, 10}, {9, 0}, SAME}, 7},
+/* N8; a table at 512, whose words are 0 */
+static const struct setting settings_8[] = {
+    {"velocity with Bumpless II", 8 | 32, {SAME, SAME, SAME}, 8, IN_ALL}, {"velocity", 32, {SAME, SAME, SAME}, 0, IN_ALL},
+    {"Bumpless II", 8, {SAME, SAME, SAME}, 0, IN_ALL}, {"mode 1 bit 9", 512, {SAME, SAME, SAME}, 8, IN_ALL},
+    {"mode 1 bit 10", 1024, {SAME, SAME, SAME}, 0, IN_ALL}, {"mode 1 bit 11", 2048, {SAME, SAME, SAME}, 0, IN_ALL},
+    {"mode 1 bit 15", 32768, {SAME, SAME, SAME}, 0, IN_ALL}, {"mode 1 bits 9 and 11", 512 | 2048, {SAME, SAME, SAME}, 8, IN_ALL},
+    {"mode 2 bits 1, 4, 8, 9", 0, {{1, 0x0312}, SAME, SAME}, 0, IN_ALL}, {"mode 2 bit 0", 0, {{1, 0x0001}, SAME, SAME}, 8, IN_ALL},
+    {"mode 2 bit 2", 0, {{1, 0x0004}, SAME, SAME}, 8, IN_ALL}, {"mode 2 bit 15", 0, {{1, 0x8000}, SAME, SAME}, 8, IN_ALL},
+    {"mode 2 bits 10, 12, 13", 0, {{1, 0x3400}, SAME, SAME}, 0, IN_ALL}, {"mode 2 bit 11", 0, {{1, 0x0c00}, SAME, SAME}, 8, IN_ALL},
+    {"mode 2 bit 12 alone", 0, {{1, 0x1000}, SAME, SAME}, 8, IN_ALL},
+    {"mode 2 bit 13 alone", 0, {{1, 0x2000}, SAME, SAME}, 8, IN_ALL},
+    {"hysteresis 0, not watched", 16384, {{18, 0}, SAME, SAME}, 0, IN_ALL},
+    {"hysteresis 65,535, not watched", 16384, {{18, 65535}, SAME, SAME}, 0, IN_ALL},
+    {"hysteresis 0, PV", 4096, {{18, 0}, SAME, SAME}, 8, IN_ALL}, {"hysteresis 1, PV", 4096, {{18, 1}, SAME, SAME}, 0, IN_ALL},
+    {"hysteresis 200, PV", 4096, {{18, 200}, SAME, SAME}, 0, IN_ALL},
+    {"hysteresis 201, PV", 4096, {{18, 201}, SAME, SAME}, 8, IN_ALL},
+    {"hysteresis 0, deviation", 8192, {{18, 0}, SAME, SAME}, 8, IN_ALL},
+    {"hysteresis 1, deviation", 8192, {{18, 1}, SAME, SAME}, 0, IN_ALL},
+    {"hysteresis 200, deviation", 8192, {{18, 200}, SAME, SAME}, 0, IN_ALL},
+    {"hysteresis 201, deviation", 8192, {{18, 201}, SAME, SAME}, 8, IN_ALL},
+    {"end at full scale", 2048, {{28, 512}, {512, 4095}, SAME}, 0, IN_ALL},
+    {"end above full scale", 2048, {{28, 512}, {512, 4096}, SAME}, 8, IN_ALL},
+    {"end above, the last", 2048, {{28, 512}, {540, 4096}, SAME}, 8, IN_ALL},
+    {"end above, bit 11 off", 0, {{28, 512}, {512, 4096}, SAME}, 0, IN_ALL},
+    {"end above, a fault", 2048, {{28, 511}, {512, 4096}, {511, 4096}}, 0, IN_ALL},
+    {"end 4,096 in 15 bits", 2048, {{28, 512}, {512, 4096}, {1, 2}}, 0, IN_ALL},
+    {"end 4,096, 16 bits out", 2048, {{28, 512}, {512, 4096}, {1, 0x2400}}, 8, IN_ALL},
 };
+
+/* N12 */
+static const struct setting settings_12[] = {
+    {"period 0", 0, {{7, 0}, SAME, SAME}, 12, IN_ALL}, {"period 0.04 s", 0, {{7, 4}, SAME, SAME}, 12, IN_ALL},
+    {"period 0.05 s", 0, {{7, 5}, SAME, SAME}, 0, IN_ALL}, {"period 99.99 s", 0, {{7, 0x9999}, SAME, SAME}, 0, IN_ALL},
+    {"reset 0", 0, {{9, 0}, SAME, SAME}, 12, IN_ALL}, {"reset 0.01", 0, {{9, 1}, SAME, SAME}, 0, IN_ALL},
+    {"reset 0 in minutes", 0, {{9, 0}, {1, 16}, SAME}, 12, IN_ALL}, {"reset 0.01 minutes", 0, {{9, 1}, {1, 16}, SAME}, 0, IN_ALL},
+    {"reset off", 0, {{9, 0x9999}, SAME, SAME}, 0, IN_ALL}, {"reset 0 in velocity form", 32, {{9, 0}, SAME, SAME}, 12, IN_ALL},
+    {"gain and rate 0", 0, {{8, 0}, {10, 0}, SAME}, 0, IN_ALL},
+};
+
+/* N13: in counts of the output */
+static const struct setting settings_13[] = {
+    {"low above high", 0, {{24, 2001}, {25, 2000}, SAME}, 13, IN_ALL},
+    {"low equals high", 0, {{24, 2000}, {25, 2000}, SAME}, 0, IN_ALL},
+    {"low above 0", 0, {{24, 1}, {25, 0}, SAME}, 13, IN_ALL}, {"both 0", 0, {{24, 0}, {25, 0}, SAME}, 0, IN_ALL},
+    {"high above full scale", 0, {{25, 4096}, SAME, SAME}, 13, IN_ALL}, {"both above", 0, {{24, 4096}, {25, 4096}, SAME}, 13, IN_ALL},
+    {"both at full scale", 0, {{24, 4095}, {25, 4095}, SAME}, 0, IN_ALL},
+    {"high 32,767 in 15 bits", 0, {{25, 32767}, {1, 2}, SAME}, 0, IN_ALL},
+    {"high 32,768 in 15 bits", 0, {{25, 32768}, {1, 2}, SAME}, 13, IN_ALL},
+    {"high 65,535 in 16 bits", 0, {{25, 65535}, {1, 512}, SAME}, 0, IN_ALL},
+    {"high 4,095, 12 bits out of 16", 0, {{25, 4095}, {1, 0x0600}, SAME}, 0, IN_ALL},
+    {"high 4,096, 12 bits out of 16", 0, {{25, 4096}, {1, 0x0600}, SAME}, 13, IN_ALL},
+    {"high 32,767, 15 bits out of 12", 0, {{25, 32767}, {1, 0x1400}, SAME}, 0, IN_ALL},
+    {"high 32,768, 15 bits out of 12", 0, {{25, 32768}, {1, 0x1400}, SAME}, 13, IN_ALL},
+    {"high 65,535, 16 bits out of 12", 0, {{25, 65535}, {1, 0x2400}, SAME}, 0, IN_ALL},
+};
+
+/* N14: in counts of the input. Word 2 counts outside Cascade, pointer and the word there in Cascade. */
+static const struct setting settings_14[] = {
+    {"setpoint at full scale", 0, {{2, 4095}, SAME, SAME}, 0, IN_ALL}, {"setpoint above", 0, {{2, 4096}, SAME, SAME}, 14, OUTSIDE},
+    {"setpoint above, in Cascade", 0, {{2, 4096}, SAME, SAME}, 0, IN_CASCADE},
+    {"setpoint above, Bumpless II", 8, {{2, 4096}, SAME, SAME}, 14, OUTSIDE},
+    {"setpoint 32,767 in 15 bits", 0, {{2, 32767}, {1, 2}, SAME}, 0, IN_ALL},
+    {"setpoint 32,768 in 15 bits", 0, {{2, 32768}, {1, 2}, SAME}, 14, OUTSIDE},
+    {"setpoint 65,535 in 16 bits", 0, {{2, 65535}, {1, 512}, SAME}, 0, IN_ALL},
+    {"setpoint 4,096, 16 bits out", 0, {{2, 4096}, {1, 0x2400}, SAME}, 14, OUTSIDE},
+    {"setpoint 65,535, 12 bits out of 16", 0, {{2, 65535}, {1, 0x0600}, SAME}, 0, IN_ALL},
+    {"pointer 1,023", 0, {{26, 1023}, SAME, SAME}, 0, IN_ALL}, {"pointer 1,024", 0, {{26, 1024}, SAME, SAME}, 14, IN_CASCADE},
+    {"pointer 1,024, not in Cascade", 0, {{26, 1024}, SAME, SAME}, 0, OUTSIDE},
+    {"pointer 65,535 in 16 bits", 0, {{26, 65535}, {1, 512}, SAME}, 14, IN_CASCADE},
+    {"followed at full scale", 0, {{600, 4095}, SAME, SAME}, 0, IN_ALL},
+    {"followed above", 0, {{600, 4096}, SAME, SAME}, 14, IN_CASCADE},
+    {"followed above, not in Cascade", 0, {{600, 4096}, SAME, SAME}, 0, OUTSIDE},
+    {"followed 32,768 in 15 bits", 0, {{600, 32768}, {1, 2}, SAME}, 14, IN_CASCADE},
+    {"followed 65,535 in 16 bits", 0, {{600, 65535}, {1, 512}, SAME}, 0, IN_ALL},
+    {"followed 4,096, 16 bits out", 0, {{600, 4096}, {1, 0x2400}, SAME}, 14, IN_CASCADE},
+    {"followed above, in word 2 itself", 0, {{26, 2}, {2, 4096}, SAME}, 14, IN_ALL},
+};
+
+/* one number before the other, where both hold; O3 */
+static const struct setting settings_at_once[] = {
+    {"7 before 8", 512, {{8, 10}, SAME, SAME}, 7, IN_ALL}, {"7 before 12", 0, {{8, 10}, {9, 0}, SAME}, 7, IN_ALL},
+    {"velocity with Bumpless II before 12", 8 | 32, {{9, 0}, SAME, SAME}, 8, IN_ALL},
+    {"hysteresis before 12", 4096, {{7, 0}, SAME, SAME}, 8, IN_ALL},
+    {"a table's end before 12", 2048, {{28, 512}, {512, 4096}, {7, 4}}, 8, IN_ALL},
+    {"12 before 13", 0, {{9, 0}, {25, 4096}, SAME}, 12, IN_ALL},
+    {"12 before 13 and 14", 0, {{7, 4}, {24, 4096}, {2, 4096}}, 12, IN_ALL},
+    {"13 before 14", 0, {{25, 4096}, {2, 4096}, SAME}, 13, IN_ALL},
+    {"13 before a pointer", 0, {{24, 4096}, {26, 1024}, SAME}, 13, IN_ALL},
+};
+
+/* The text ends with these lines. */
+static void text_ends(const char *expected) {
+    const size_t length = strlen(expected);
+    check("the last lines", *text_length >= length && memcmp(out + GUARD + *text_length - length, expected, length) == 0);
+}
+
+/* Six stores of loop A, the pointer, three of the setting, and mode 1: the twelfth record is the sample. */
+static void setting_in_file(const struct setting *c, unsigned request) {
+    char lines[64];
+    begin(c->name);
+    file_loop_a(), file_store(26, 600);
+    for (int k = 0; k < 3; k++) file_store(c->stores[k][0], c->stores[k][1]);
+    file_store(0, c->mode_1 | request), file_sample(1, 1000);
+    equals("run", run(ANSWERS), 0);
+    equals("records", (int64_t)*count, 12);
+    equals("refused", (int64_t)*refused, c->answer != 0);
+    equals("a sample in a file", answers[11], c->answer);
+    equals("print", print_of(file, size, KEXBARDI_PRINT_ROOM(size)), 0);
+    sprintf(lines, "\n12 refused %u\n12 records, 1 refused\n", c->answer);
+    text_ends(c->answer ? lines : "\n12 records, 0 refused\n");
+}
+
+static void setting_in_mode(const struct setting *c, unsigned request) {
+    begin_loop_a(c->name);
+    store(26, 600);
+    for (int k = 0; k < 3; k++) store(c->stores[k][0], c->stores[k][1]);
+    store(0, c->mode_1 | request);
+    equals("forecast", forecast(1), c->answer);
+    equals("sample", sample(1, 1000), c->answer);
+    setting_in_file(c, request);
+}
+
+static void try_settings(const struct setting *settings, size_t how_many) {
+    for (size_t n = 0; n < how_many; n++)
+        for (unsigned request = IN_MANUAL; request <= IN_CASCADE; request *= 2)
+            if (settings[n].modes & request) setting_in_mode(&settings[n], request);
+}
 
 static void settings_refused(void) {
-    for (size_t n = 0; n < sizeof settings / sizeof *settings; n++) {
-        begin_loop_a(settings[n].name);
-        for (int k = 0; k < 3; k++) store(settings[n].stores[k][0], settings[n].stores[k][1]);
-        equals("forecast", forecast(1), settings[n].answer);
-        equals("sample", sample(1, 1000), settings[n].answer);
-    }
+    try_settings(settings_8, sizeof settings_8 / sizeof *settings_8);
+    try_settings(settings_12, sizeof settings_12 / sizeof *settings_12);
+    try_settings(settings_13, sizeof settings_13 / sizeof *settings_13);
+    try_settings(settings_14, sizeof settings_14 / sizeof *settings_14);
+    try_settings(settings_at_once, sizeof settings_at_once / sizeof *settings_at_once);
     /* M2: every word of mode 2. Bits 0, 2, 3, 5 to 7, 11, 14 and 15 have to be off, and without bit 10 also 12 and 13. */
     begin_loop_a("mode 2");
     unsigned wrong = 0, accepted = 0;
@@ -587,19 +751,25 @@ static void settings_refused(void) {
     equals("words with another answer", wrong, 0);
     equals("words that are accepted", accepted, 16 + 64); /* bits 1, 4, 8 and 9; these with 10, 12 and 13 */
     begin("from reset");
-    equals("sample", sample(1, 0), 8);
+    equals("sample", sample(1, 0), 12);
+    equals("forecast", forecast(1), 12);
 }
 
 static void raw_above(void) {
     static const uint16_t mode_2s[] = {0, 2}, full_scales[] = {4095, 32767};
+    static const uint16_t before_9[][4] = {/* address, wrong, right, number */
+        {8, 0x000a, 0x0200, 7}, {0, 2 | 512, 2, 8}, {7, 4, 0x0100, 12}, {9, 0, 0x1000, 12}, {24, 4096, 0, 13}, {2, 65535, 0, 14}};
     for (int n = 0; n < 2; n++) {
         begin_loop_a("raw PV above full scale");
         store(1, mode_2s[n]);
         equals("one above", sample(1, full_scales[n] + 1u), 9);
         equals("65,535", sample(1, 65535), 9);
-        store(24, 4000), store(25, 3999);
-        equals("8 before 9", sample(1, 65535), 8);
-        store(24, 0);
+        for (size_t k = 0; k < sizeof before_9 / sizeof *before_9; k++) {
+            store(before_9[k][0], before_9[k][1]);
+            equals("a number before 9", sample(1, 65535), before_9[k][3]);
+            store(before_9[k][0], before_9[k][2]);
+        }
+        equals("all mended", sample(1, 65535), 9);
         equals("full scale", sample(1, full_scales[n]), 0);
     }
     begin_loop_a("16 bits");
@@ -627,10 +797,12 @@ static void wide_raw(uint64_t raw) {
     equals("sample", sample(1, raw), 9);
     equals("no such loop", sample(17, raw), 4);
     equals("1,023 words", sample_of(1023, 224, 1, raw), 5);
+    words[KEXBARDI_OUTPUT_LOW] = 65535;
+    equals("13 before 9", sample(1, raw), 13);
     words[KEXBARDI_RESET] = 0;
-    equals("8 before 9", sample(1, raw), 8);
+    equals("12 before 13 and 9", sample(1, raw), 12);
     words[KEXBARDI_GAIN] = 0x000a;
-    equals("7 before 8 and 9", sample(1, raw), 7);
+    equals("7 before them", sample(1, raw), 7);
     lent = kept;
 }
 
@@ -735,7 +907,7 @@ static void profile_commands(void) {
     records[KEXBARDI_FIELD_SEGMENT] = 1;
     forecast_is(1, 1330 + SOAK_2 + RAMP_3 + SOAK_4 + 1);
     words[KEXBARDI_MODE_1] = 2 | 2048;
-    equals("outside Cascade", forecast(1), 8);
+    equals("outside Cascade", forecast(1), 14);
 }
 
 /* One sample of the profile above, from a record of the caller's own making: mode 1, word 27, word 2 and PV, the record's
@@ -860,6 +1032,9 @@ static void table_word(unsigned table, unsigned at, unsigned mode_1) {
     equals("forecast, the highest", forecast(1), 0);
     words[address] = 4096; /* 10.00, or 100.0 minutes */
     equals("forecast, above full scale", forecast(1), there && kind == 0 ? 8 : 0);
+    words[KEXBARDI_RESET] = 0;
+    equals("forecast, 8 before 12", forecast(1), there && kind == 0 ? 8 : 12);
+    equals("sample, 8 before 12", sample(1, 1000), there && kind == 0 ? 8 : 12);
     words[KEXBARDI_GAIN] = 0x000a;
     equals("forecast, 7 before 8", forecast(1), 7);
     lent = kept;
@@ -1262,13 +1437,13 @@ static void transfer_by_form(void) {
     equals("loop 1's mark", MARK(1), 1);
 }
 
-/* The word at the pointer is tested as it stands (N8); what it held has no other part: alarms see s at p. */
+/* The word at the pointer is tested as it stands (N14); what it held has no other part: alarms see s at p. */
 static void transfer_pointed(void) {
     begin_pair("the word at the pointer", 2, 1);
     *word_of(2, KEXBARDI_MODE_1) = 4 | 8192;
     *word_of(2, KEXBARDI_YELLOW) = 50, *word_of(2, KEXBARDI_RED) = 99, *word_of(2, KEXBARDI_HYSTERESIS) = 10;
     words[5] = 4096;
-    equals("above full scale", sample(2, 1510), 8);
+    equals("above full scale", sample(2, 1510), 14);
     words[5] = 4095;
     equals("at full scale", sample(2, 1510), 0);
     check_line(1510, 1510, 2020, 0x0004);
@@ -1311,7 +1486,7 @@ static void transfer_pointers(void) {
             const int output = pointer < 512 && pointer % 32 == 5 && pointer / 32 != minors[k] - 1;
             *word_of(minors[k], KEXBARDI_POINTER) = (uint16_t)pointer;
             const uint8_t answer = sample(minors[k], 1510);
-            equals("sample", answer, output ? 0 : pointer < 1024 ? 11 : 8);
+            equals("sample", answer, output ? 0 : pointer < 1024 ? 11 : 14);
             accepted += answer == 0;
             lent = kept;
         }
@@ -1458,9 +1633,15 @@ static void mark_kept(void) {
     equals("above full scale", sample(1, 4096), 9);
     words[KEXBARDI_GAIN] = 0x000a;
     equals("a digit", sample(1, 1000), 7);
-    words[KEXBARDI_GAIN] = 0x0200, words[KEXBARDI_RESET] = 0;
-    equals("a setting", sample(1, 1000), 8);
-    words[KEXBARDI_RESET] = 0x1000, records[KEXBARDI_FIELD_ERROR] = 65536;
+    words[KEXBARDI_GAIN] = 0x0200, words[KEXBARDI_MODE_1] = 512;
+    equals("a mode bit", sample(1, 1000), 8);
+    words[KEXBARDI_MODE_1] = 0, words[KEXBARDI_RESET] = 0;
+    equals("a time", sample(1, 1000), 12);
+    words[KEXBARDI_RESET] = 0x1000, words[KEXBARDI_OUTPUT_LOW] = 4096;
+    equals("a limit", sample(1, 1000), 13);
+    words[KEXBARDI_OUTPUT_LOW] = 0, words[KEXBARDI_SETPOINT] = 4096;
+    equals("a setpoint", sample(1, 1000), 14);
+    words[KEXBARDI_SETPOINT] = 1100, records[KEXBARDI_FIELD_ERROR] = 65536;
     equals("a number out of range", sample(1, 1000), 5);
     records[KEXBARDI_FIELD_ERROR] = 0;
     equals("the minor loop", sample(2, 1510), 0);
@@ -1556,10 +1737,16 @@ static void transfer_forecasts(void) {
     store(26, 600);
     equals("no output", forecast(1), 11);
     store(600, 4096);
-    equals("8 before 11", forecast(1), 8);
+    equals("14 before 11", forecast(1), 14);
+    store(24, 4096);
+    equals("13 before 14", forecast(1), 13);
+    store(9, 0);
+    equals("12 before 13", forecast(1), 12);
+    store(1, 1);
+    equals("8 before 12", forecast(1), 8);
     store(9, 0x000a);
     equals("7 before 8", forecast(1), 7);
-    store(9, 0x1000), store(600, 0), store(26, 37), store(32 + 24, 0);
+    store(9, 0x1000), store(1, 0), store(24, 0), store(600, 0), store(26, 37), store(32 + 24, 0);
     equals("transfer", sample(1, 1500), 0);
     forecast_is(1, 164 + SOAK_2 + RAMP_3 + SOAK_4 + 1); /* Cascade now: 490 counts down from 1,500 by 3.00 */
     store(26, 600);
@@ -1636,7 +1823,7 @@ static void garbage_neighbour(void) {
     equals("run", run(ANSWERS), 0);
     equals("loop 3 in a file", answers[0], 5);
     equals("loop 2 in a file", answers[1], 0);
-    equals("loop 4 in a file", answers[2], 8);
+    equals("loop 4 in a file", answers[2], 12);
     equals("it stays", records[2 * KEXBARDI_FIELDS + KEXBARDI_FIELD_ERROR], 65536);
 }
 
@@ -1724,10 +1911,6 @@ static void two_desks(void) {
 
 /* ---- files */
 
-static void file_loop_a(void) {
-    for (int n = 0; n < 6; n++) file_store(loop_a_stores[n][0], loop_a_stores[n][1]);
-}
-
 static const char worked_lines[] =
     "1 set 5 2000\n2 set 25 4095\n3 set 7 256\n4 set 8 512\n5 set 9 4096\n6 set 0 2\n"
     "7 loop 1 sp 1000 pv 1000 out 2000 word 0002\n8 set 2 1500\n9 loop 1 sp 1500 pv 1000 out 3100 word 0002\n"
@@ -1741,7 +1924,7 @@ static void file_worked(void) {
     file_sample(17, 0);
 }
 
-/* The file is run with room for every answer; each is a character from '0' on, so 11 is ';'. */
+/* The file is run with room for every answer; each is a character from '0' on, so 11 to 14 are ';', '<', '=' and '>'. */
 static void check_run(const char *expected) {
     size_t refusals = 0, records_read = strlen(expected);
     equals("run", run(ANSWERS), 0);
@@ -1795,22 +1978,31 @@ static void transfer_file(void) {
 static void file_refusals(void) {
     begin("rows of the table");
     file_sample(1, 0);
+    file_store(0, 512), file_sample(1, 0);
     file_store(8, 10), file_sample(1, 0);
     pair(2), pair(99);
     pair(3), pair(2), byte(1);
     file_sample(17, 0);
     file_store(3, 5);
     file_loop_a(), file_sample(1, 4096);
+    file_store(2, 4096), file_sample(1, 4096);
+    file_store(24, 4096), file_sample(1, 4096);
+    file_store(2, 0), file_store(24, 0);
     file_sample(1, 1000), file_store(0, 4), file_sample(1, 1000); /* the pointer is 0 */
     pair(6), byte(1);
-    check_run("8072346000000900;1");
-    equals("a record of no kind", answers[3], KEXBARDI_KIND);
-    equals("a length that is not the kind's", answers[4], KEXBARDI_LENGTH);
-    equals("a transfer to no output", answers[16], KEXBARDI_TRANSFER);
-    equals("a record cut", answers[17], KEXBARDI_CUT);
-    check_text("1 refused 8\n2 set 8 10\n3 refused 7\n4 refused 2\n5 refused 3\n6 refused 4\n7 refused 6\n8 set 5 2000\n9 set 25 4095\n"
-        "10 set 7 256\n11 set 8 512\n12 set 9 4096\n13 set 0 2\n14 refused 9\n15 loop 1 sp 1000 pv 1000 out 2000 word 0002\n"
-        "16 set 0 4\n17 refused 11\n18 refused 1\n18 records, 9 refused\n");
+    check_run("<0807234600000090>0=0000;1");
+    equals("a time", answers[0], KEXBARDI_SETTING_TIMES);
+    equals("a mode bit", answers[2], KEXBARDI_SETTING);
+    equals("a record of no kind", answers[5], KEXBARDI_KIND);
+    equals("a length that is not the kind's", answers[6], KEXBARDI_LENGTH);
+    equals("a setpoint", answers[17], KEXBARDI_SETTING_SETPOINT);
+    equals("a limit", answers[19], KEXBARDI_SETTING_LIMITS);
+    equals("a transfer to no output", answers[24], KEXBARDI_TRANSFER);
+    equals("a record cut", answers[25], KEXBARDI_CUT);
+    check_text("1 refused 12\n2 set 0 512\n3 refused 8\n4 set 8 10\n5 refused 7\n6 refused 2\n7 refused 3\n8 refused 4\n9 refused 6\n"
+        "10 set 5 2000\n11 set 25 4095\n12 set 7 256\n13 set 8 512\n14 set 9 4096\n15 set 0 2\n16 refused 9\n17 set 2 4096\n"
+        "18 refused 14\n19 set 24 4096\n20 refused 13\n21 set 2 0\n22 set 24 0\n23 loop 1 sp 1000 pv 1000 out 2000 word 0002\n"
+        "24 set 0 4\n25 refused 11\n26 refused 1\n26 records, 12 refused\n");
     begin("a record that is none, in a file");
     settle(1), settle(2);
     records[KEXBARDI_FIELD_MODE] = 3;

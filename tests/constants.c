@@ -102,10 +102,12 @@ static void take_record(void) { equals("record", kexbardi_record(records, 224, 1
 
 /* ---- versions */
 
-/* Header and archive are of one version. Saves of 5.0.0 and later may be loaded: the engine has no say in it. */
+/* Header and archive are of one version, 5.2.0 or later: it has refusals 12 to 14. Saves of 5.0.0 and later may be loaded: the engine
+ * has no say in it. */
 static void versions(void) {
     test = "versions";
     equals("KEXBARDI_VERSION", KEXBARDI_VERSION, kexbardi_version());
+    check("a version that has all refusals", KEXBARDI_VERSION >= 50200);
     equals("KEXBARDI_OLDEST_SAVE", KEXBARDI_OLDEST_SAVE, 50000);
     check("the oldest save is not above the version", KEXBARDI_OLDEST_SAVE <= KEXBARDI_VERSION);
     equals("the major number of 3.0.0", KEXBARDI_MAJOR(30000), 3);
@@ -512,8 +514,8 @@ static void formats(void) {
     format("16 bits prevail", KEXBARDI_M2_FIFTEEN_BITS | KEXBARDI_M2_SIXTEEN_BITS, 0x0202, KEXBARDI_FULL_16, 65535);
 }
 
-/* M3, N8: a high limit at the output's full scale is accepted, and one above it refused. A5: the error from PV 0 to setpoint 4,095, the
- * input's full scale, is the output's. */
+/* M3, N13: a high limit at the output's full scale is accepted, and one above it refused. A5: the error from PV 0 to setpoint 4,095,
+ * the input's full scale, is the output's. */
 static void output_format(const char *name, unsigned mode_2, unsigned bits_of_mode_2, unsigned highest) {
     begin_loop_a(name);
     put(1, mode_2);
@@ -526,7 +528,7 @@ static void output_format(const char *name, unsigned mode_2, unsigned bits_of_mo
     equals("the error", fields[5], highest);
     if (highest == 65535) return;
     put(25, highest + 1);
-    equals("a limit above it", sample(1, 0), 8);
+    equals("a limit above it", sample(1, 0), 13);
 }
 
 static void output_formats(void) {
@@ -1072,7 +1074,7 @@ static const struct row rows[] = {
     {"KEXBARDI_LENGTH", 5, {0x03, 0x00, 0x02, 0x00, 0x01}, 3, KEXBARDI_LENGTH},
     {"KEXBARDI_LOOP", 7, {0x05, 0x00, 0x02, 0x00, 0x11, 0x00, 0x00}, 4, KEXBARDI_LOOP},
     {"KEXBARDI_STORE", 8, {0x06, 0x00, 0x01, 0x00, 0x03, 0x00, 0x05, 0x00}, 6, KEXBARDI_STORE},
-    {"KEXBARDI_SETTING", 7, {0x05, 0x00, 0x02, 0x00, 0x01, 0x00, 0x00}, 8, KEXBARDI_SETTING},
+    {"KEXBARDI_SETTING_TIMES", 7, {0x05, 0x00, 0x02, 0x00, 0x01, 0x00, 0x00}, 12, KEXBARDI_SETTING_TIMES},
 };
 
 static void refused_in_files(void) {
@@ -1087,10 +1089,10 @@ static void refused_in_files(void) {
     }
 }
 
-/* N4 to N9, by calls; 5 in each of its three cases. */
+/* N4 to N7 and N9, by calls; 5 in each of its three cases. */
 static void refused_calls(void) {
-    begin("KEXBARDI_SETTING, from reset");
-    equals("sample", sample(1, 0), KEXBARDI_SETTING);
+    begin("KEXBARDI_SETTING_TIMES, from reset");
+    equals("sample", sample(1, 0), KEXBARDI_SETTING_TIMES);
     begin_loop_a("refused calls");
     equals("loop 17", sample(17, 1000), KEXBARDI_LOOP);
     equals("loop 0", kexbardi_record(records, 224, 0, fields), KEXBARDI_LOOP);
@@ -1101,6 +1103,41 @@ static void refused_calls(void) {
     put(8, 0x000a);
     equals("a digit", sample(1, 1000), KEXBARDI_DIGIT);
     equals("a digit in plain numbers", sample(1, 1000), 7);
+}
+
+struct wrong {
+    const char *name;
+    uint16_t stores[2][2], number;
+    enum kexbardi_refusal refusal;
+};
+
+/* N8, N12, N13, N14: loop A with one setting that is wrong, in each way a number has; 601 is no setting. */
+static const struct wrong wrong_settings[] = {
+    {"KEXBARDI_SETTING, bit 9", {{0, 0x0202}, {601, 0}}, 8, KEXBARDI_SETTING},
+    {"KEXBARDI_SETTING, velocity with Bumpless II", {{0, 0x002a}, {601, 0}}, 8, KEXBARDI_SETTING},
+    {"KEXBARDI_SETTING, mode 2", {{1, 0x0001}, {601, 0}}, 8, KEXBARDI_SETTING},
+    {"KEXBARDI_SETTING, hysteresis", {{0, 0x1002}, {18, 201}}, 8, KEXBARDI_SETTING},
+    {"KEXBARDI_SETTING, an end, with bit 11 and table 512", {{512, 4096}, {601, 0}}, 8, KEXBARDI_SETTING},
+    {"KEXBARDI_SETTING_TIMES, period", {{7, 0x0004}, {601, 0}}, 12, KEXBARDI_SETTING_TIMES},
+    {"KEXBARDI_SETTING_TIMES, reset", {{9, 0}, {601, 0}}, 12, KEXBARDI_SETTING_TIMES},
+    {"KEXBARDI_SETTING_LIMITS, low", {{24, 2001}, {25, 2000}}, 13, KEXBARDI_SETTING_LIMITS},
+    {"KEXBARDI_SETTING_LIMITS, high", {{25, 4096}, {601, 0}}, 13, KEXBARDI_SETTING_LIMITS},
+    {"KEXBARDI_SETTING_SETPOINT, word 2", {{2, 4096}, {601, 0}}, 14, KEXBARDI_SETTING_SETPOINT},
+    {"KEXBARDI_SETTING_SETPOINT, pointer", {{0, 0x0004}, {26, 1024}}, 14, KEXBARDI_SETTING_SETPOINT},
+    {"KEXBARDI_SETTING_SETPOINT, word there", {{0, 0x0004}, {600, 4096}}, 14, KEXBARDI_SETTING_SETPOINT},
+};
+
+static void refused_settings(void) {
+    for (size_t n = 0; n < sizeof wrong_settings / sizeof *wrong_settings; n++) {
+        const struct wrong *w = &wrong_settings[n];
+        begin_loop_a(w->name);
+        put(0, 0x0802), put(28, 512), put(26, 600);
+        equals("before", kexbardi_forecast(words, 1024, records, 224, 1, &left), 0);
+        for (int k = 0; k < 2; k++) put(w->stores[k][0], w->stores[k][1]);
+        equals("sample", sample(1, 1000), w->number);
+        equals("sample by its constant", sample(1, 1000), w->refusal);
+        equals("forecast by its constant", kexbardi_forecast(words, 1024, records, 224, 1, &left), w->refusal);
+    }
 }
 
 static void refused_memory(void) {
@@ -1267,6 +1304,7 @@ int main(void) {
     accepted();
     refused_in_files();
     refused_calls();
+    refused_settings();
     refused_memory();
     refused_room();
     refused_transfer();

@@ -1,8 +1,9 @@
 """A desk in Python, by ctypes alone: python3 tests/desk.py LIBRARY HEADER
 
-It loads the shared library, holds its version and its sizes to the header's, tries the refusals 4, 5, 6, 10 and 11, runs loop A
-and writes its setup file, then runs a profile beside its forecast, and a drum-level pair into Cascade. It prints what the program
-`drill` prints of examples/loop-a.drill, and fails where a call answers otherwise than the header says.
+It loads the shared library, holds its version and its sizes to the header's, tries the refusals 4, 5, 6, 8, 10, 11 and 12 to 14 by
+the header's numbers, runs loop A and writes its setup file, then runs a profile beside its forecast, and a drum-level pair into
+Cascade. It prints what the program `drill` prints of examples/loop-a.drill, and fails where a call answers otherwise than the
+header says.
 """
 
 import ctypes
@@ -12,7 +13,9 @@ from ctypes import c_int64, c_size_t, c_uint8, c_uint16, c_uint32, c_uint64
 
 library = ctypes.CDLL(sys.argv[1])
 with open(sys.argv[2], encoding="ascii") as header:
-    defined = {name: int(value) for name, value in re.findall(r"^#define KEXBARDI_(\w+) (\d+)\b", header.read(), re.M)}
+    text = header.read()
+defined = {name: int(value) for name, value in re.findall(r"^#define KEXBARDI_(\w+) (\d+)\b", text, re.M)}
+refusals = {name: int(value) for name, value in re.findall(r"^    KEXBARDI_(SETTING\w*) = (\d+)", text, re.M)}
 
 Words = c_uint16 * 1024
 Records = c_int64 * 224
@@ -83,23 +86,35 @@ for at, above in ((7, 2), (8, 17), (12, 6000001), (13, 2)):
     refused(5, record, records, len(records), 1, fields)
     refused(5, forecast, *desk, 1, samples)
     records[at] = 0
-refused(8, forecast, *desk, 1, samples)
+holds("the settings' refusals", refusals, {"SETTING": 8, "SETTING_TIMES": 12, "SETTING_LIMITS": 13, "SETTING_SETPOINT": 14})
+refused(12, forecast, *desk, 1, samples)
+refused(12, sample, *desk, 1, 0, line)
 for address in (3, 4, 6, 29, 1024, 65535, 65541, 2**64 - 1):
     refused(6, store, *desk, address, 1)
 
 STORES = [(5, 2000), (25, 4095), (7, 0x0100), (8, 0x0200), (9, 0x1000), (0, 2)]
 CALLS = [(store, *pair) for pair in STORES] + [(sample, 1, 1000), (store, 2, 1500), (sample, 1, 1000), (sample, 17, 0)]
-refusals = 0
+
+# One setting after the other made wrong on loop A: each is told though the ones before it are wrong still.
+for address, value in STORES:
+    words[address] = value
+for address, wrong, number in ((2, 4096, 14), (25, 4096, 13), (9, 0, 12), (1, 1, 8), (8, 10, 7)):
+    words[address] = wrong
+    refused(number, sample, *desk, 1, 4096, line)
+    refused(number, forecast, *desk, 1, samples)
+holds("reset", reset(*desk), 0)
+
+refused_records = 0
 for number, (call, first, second) in enumerate(CALLS, 1):
     answer = call(*desk, first, second, line) if call is sample else call(*desk, first, second)
     if answer:
-        refusals += 1
+        refused_records += 1
         print(f"{number} refused {answer}")
     elif call is store:
         print(f"{number} set {first} {second}")
     else:
         print(f"{number} loop {first} sp {line[0]} pv {line[1]} out {line[2]} word {line[3]:04X}")
-print(f"{len(CALLS)} records, {refusals} refused")
+print(f"{len(CALLS)} records, {refused_records} refused")
 holds("the record", record(records, len(records), 1, fields), 0)
 holds("a sampled loop in Automatic", (fields[0], fields[7]), (1, 1))
 

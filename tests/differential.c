@@ -1,5 +1,6 @@
 /* The archive beside the plain engine, call by call: `differential CALLS SEED` makes that many random calls
- * on two desks and compares answers and all memory after each. It links the archive and bench/plain_engine.c:
+ * on two desks and compares answers and all memory after each; the answers to samples and forecasts also with what is wrong with
+ * the words, by a list of its own. It links the archive and bench/plain_engine.c:
  *   gcc -O2 -std=c99 -Itarget/kexbardi/include -Ibench tests/differential.c bench/plain_engine.c target/kexbardi/lib/libkexbardi.a */
 #include "kexbardi.h"
 #include "plain_engine.h"
@@ -11,7 +12,7 @@
 #define SPARE 8 /* elements behind a desk's memory, for lengths that are too great */
 #define LONGEST 2000
 #define ANSWERS 400
-#define HIGHEST KEXBARDI_TRANSFER /* of the refusals */
+#define HIGHEST KEXBARDI_SETTING_SETPOINT /* of the refusals */
 
 /* what one engine works on */
 struct desk {
@@ -82,30 +83,56 @@ static unsigned long pairs[FORMATS][FORMATS]; /* accepted outside Manual with an
 #define NO_FORMAT 0x8000 /* no accepted sample can have it */
 static unsigned last_mode_2s[KEXBARDI_LOOPS]; /* of each loop's last accepted sample; NO_FORMAT after a file or a reset */
 
-/* what a table is refused with where nothing else is wrong, what forecasts answer, and why transfers are refused, with the root off
- * where p counts */
+/* what forecasts answer, why transfers are refused, with the root off where p counts, and what is refused by one scale where the
+ * other would allow it */
 enum reached {
-    TABLE_DIGIT, TABLE_END, SOME, NONE, FAR, WHILE_HELD, WITH_COMMAND, IN_CASCADE, ABOVE_FULL,
-    OWN_OUTPUT, BESIDE_OUTPUT, UPPER_OUTPUT, NO_OUTPUT, LOW, JUST_LOW, HIGH, JUST_HIGH, BY_ROOT, BEHIND_8, BEHIND_9, MARK_STAYS,
+    SOME, NONE, FAR, WHILE_HELD, WITH_COMMAND, IN_CASCADE, ABOVE_FULL,
+    OWN_OUTPUT, BESIDE_OUTPUT, UPPER_OUTPUT, NO_OUTPUT, LOW, JUST_LOW, HIGH, JUST_HIGH, BY_ROOT, MARK_STAYS,
     FORECAST_POINTER, FORECAST_LIMIT, FORECAST_TRANSFER, BY_FILE,
-    BY_BIT_11, BY_BITS_12_13, LIMIT_BY_OUTPUT, SETPOINT_BY_INPUT, FOLLOWED_BY_INPUT, END_BY_INPUT, RAW_BY_INPUT, REACHED
+    LIMIT_BY_OUTPUT, SETPOINT_BY_INPUT, FOLLOWED_BY_INPUT, END_BY_INPUT, RAW_BY_INPUT, REACHED
 };
-static const char *const reached_names[REACHED] = {"refused with 7 for the table alone", "refused with 8 for the table alone",
+static const char *const reached_names[REACHED] = {
     "forecast above 0", "forecast 0", "forecast above a million", "forecast in a hold", "forecast with a command waiting",
     "forecast in Cascade", "forecast from a setpoint above full scale",
     "refused with 11 for the own output", "refused with 11 for a word next to an output", "refused with 11 for 512 above an output",
     "refused with 11 for another word", "refused with 11 for the low limit", "refused with 11 for one count below",
     "refused with 11 for the high limit", "refused with 11 for one count above", "refused with 11 with the root on",
-    "refused with 8 before 11", "refused with 9 before 11", "mark kept by a refused sample",
+    "mark kept by a refused sample",
     "forecast refused with 11 for the pointer", "forecast refused with 11 for the low limit", "forecast with a transfer waiting",
     "mark set by a file",
-    "refused with 8 for bit 11 of mode 2 alone", "refused with 8 for bits 12 and 13 without bit 10",
-    "refused with 8 for a limit above the output's scale and not the input's",
-    "refused with 8 for a setpoint above the input's scale and not the output's",
-    "refused with 8 for a word that is followed above the input's scale and not the output's",
+    "refused with 13 for a limit above the output's scale and not the input's",
+    "refused with 14 for a setpoint above the input's scale and not the output's",
+    "refused with 14 for a word that is followed above the input's scale and not the output's",
     "refused with 8 for a ramp's end above the input's scale and not the output's",
     "refused with 9 above the input's scale and not the output's"};
-static unsigned long reached[REACHED], forecast_refusals[HIGHEST + 1];
+static unsigned long reached[REACHED], forecast_refusals[HIGHEST + 1], file_refusals[HIGHEST + 1], printed[HIGHEST + 1];
+
+/* What can be wrong where loop and record are good, with the number that tells it. */
+enum cause {
+    DIGIT, TABLE_DIGIT,
+    VELOCITY_WITH_II, BIT_9, UNUSED_BIT, BIT_11, OUTPUT_BITS, PV_HYSTERESIS, DEVIATION_HYSTERESIS, TABLE_END,
+    PERIOD, RESET_TIME, LOW_ABOVE_HIGH, HIGH_ABOVE_SCALE, SETPOINT_ABOVE, POINTER_ABOVE, FOLLOWED_ABOVE,
+    RAW_ABOVE, NO_MAJOR, OUTSIDE_MAJOR, CAUSES
+};
+static const struct {
+    uint8_t number;
+    const char *name;
+} causes[CAUSES] = {{7, "a digit"}, {7, "a digit of the table"},
+    {8, "velocity with Bumpless II"}, {8, "bit 9 of mode 1"}, {8, "a bit of mode 2 that has no use"}, {8, "bit 11 of mode 2"},
+    {8, "bits 12 and 13 of mode 2 without bit 10"}, {8, "the hysteresis of PV alarms"}, {8, "the hysteresis of deviation alarms"},
+    {8, "a ramp's end"},
+    {12, "the period"}, {12, "the reset time"}, {13, "a low limit above the high one"}, {13, "a high limit above the scale"},
+    {14, "the setpoint"}, {14, "the pointer"}, {14, "the word that is followed"},
+    {9, "the raw PV"}, {11, "a pointer to no other output"}, {11, "a PV outside the major loop's limits"}};
+
+#define ORDER 7 /* of testing, behind 5 */
+static const uint8_t order[ORDER] = {7, 8, 12, 13, 14, 9, 11};
+
+/* how often one cause alone was wrong, and how often the first number was the answer where the second held too */
+struct wrongs {
+    unsigned long alone[CAUSES], before[ORDER][ORDER];
+};
+static struct wrongs of_samples, of_forecasts;
 
 /* 0 to below - 1 */
 static unsigned any(unsigned below) {
@@ -466,6 +493,95 @@ static void spoil_record(unsigned loop) {
     else write_number(at, once_in(3) ? INT64_MIN : once_in(3) ? INT64_MAX : any64());
 }
 
+static unsigned when(int is_so, enum cause cause) { return is_so ? 1u << cause : 0; }
+
+static int has_wrong_digit(unsigned word) {
+    for (; word > 0; word >>= 4)
+        if ((word & 15) > 9) return 1;
+    return 0;
+}
+
+/* A1: the least p with p x (p + 1) at least the product, which is the nearest to its root */
+static uint64_t nearest_root(uint64_t product) {
+    uint64_t p = 65535;
+    for (uint64_t step = 32768; step > 0; step /= 2)
+        if (p >= step && (p - step) * (p - step + 1) >= product) p -= step;
+    return p;
+}
+
+static int64_t mode_of(unsigned mode_1, const int64_t *record) {
+    if (mode_1 & KEXBARDI_M1_MANUAL) return KEXBARDI_MANUAL;
+    if (mode_1 & KEXBARDI_M1_AUTOMATIC) return KEXBARDI_AUTOMATIC;
+    return mode_1 & KEXBARDI_M1_CASCADE ? KEXBARDI_CASCADE : record[KEXBARDI_FIELD_MODE];
+}
+
+/* N7, N8 of a table */
+static unsigned wrong_in_table(const uint16_t *table, unsigned full) {
+    unsigned wrong = 0;
+    for (unsigned n = 1; n <= KEXBARDI_SEGMENTS; n += 2) {
+        const uint16_t *ramp = table + KEXBARDI_SEGMENT(n), *soak = table + KEXBARDI_SEGMENT(n + 1);
+        wrong |= when(has_wrong_digit(ramp[KEXBARDI_SLOPE]) || has_wrong_digit(soak[KEXBARDI_DURATION]), TABLE_DIGIT);
+        wrong |= when(ramp[KEXBARDI_END] > full, TABLE_END);
+    }
+    return wrong;
+}
+
+/* N8, without a table */
+static unsigned wrong_bits(const uint16_t *w) {
+    unsigned m = w[KEXBARDI_MODE_1], formats = w[KEXBARDI_MODE_2], h = w[KEXBARDI_HYSTERESIS];
+    const unsigned outputs = KEXBARDI_M2_OUTPUT_FIFTEEN_BITS | KEXBARDI_M2_OUTPUT_SIXTEEN_BITS, unused = 0xC0ED;
+    return when(m & KEXBARDI_M1_VELOCITY && m & KEXBARDI_M1_BUMPLESS_II, VELOCITY_WITH_II) | when(m & 1u << 9, BIT_9)
+        | when(formats & unused, UNUSED_BIT) | when(formats & 1u << 11, BIT_11)
+        | when(formats & outputs && !(formats & KEXBARDI_M2_OUTPUT_FORMAT), OUTPUT_BITS)
+        | when(m & KEXBARDI_M1_PV_ALARMS && (h == 0 || h > 200), PV_HYSTERESIS)
+        | when(m & KEXBARDI_M1_DEVIATION_ALARMS && (h == 0 || h > 200), DEVIATION_HYSTERESIS);
+}
+
+/* N12, N13, N14 */
+static unsigned wrong_numbers(const uint16_t *w, const int64_t *record) {
+    unsigned full = full_scale(w[KEXBARDI_MODE_2]), pointer = w[KEXBARDI_POINTER], high = w[KEXBARDI_OUTPUT_HIGH];
+    unsigned wrong = when(w[KEXBARDI_PERIOD] < 0x0005, PERIOD) | when(w[KEXBARDI_RESET] == 0, RESET_TIME)
+        | when(w[KEXBARDI_OUTPUT_LOW] > high, LOW_ABOVE_HIGH) | when(high > output_scale(w[KEXBARDI_MODE_2]), HIGH_ABOVE_SCALE);
+    if (mode_of(w[0], record) != KEXBARDI_CASCADE) return wrong | when(w[KEXBARDI_SETPOINT] > full, SETPOINT_ABOVE);
+    if (pointer >= KEXBARDI_WORDS) return wrong | when(1, POINTER_ABOVE);
+    return wrong | when(ours.words[pointer] > full, FOLLOWED_ABOVE);
+}
+
+/* N11, of a transfer */
+static unsigned wrong_transfer(unsigned loop, const uint16_t *w, uint64_t raw) {
+    unsigned major = major_of(loop, w);
+    if (major == 0) return when(1, NO_MAJOR);
+    const uint16_t *limits = ours.words + KEXBARDI_ADDRESS(major, KEXBARDI_OUTPUT_LOW);
+    uint64_t p = w[0] & KEXBARDI_M1_ROOT && raw <= 65535 ? nearest_root(raw * full_scale(w[KEXBARDI_MODE_2])) : raw;
+    return when(p < limits[0] || p > limits[1], OUTSIDE_MAJOR);
+}
+
+/* All that is wrong where a loop would be sampled with a raw PV, whose record is in range. */
+static unsigned wrong_with(unsigned loop, uint64_t raw) {
+    const uint16_t *w = ours.words + KEXBARDI_ADDRESS(loop, 0);
+    const int64_t *record = ours.records + KEXBARDI_FIELDS * (loop - 1);
+    unsigned full = full_scale(w[KEXBARDI_MODE_2]), wrong = wrong_bits(w) | wrong_numbers(w, record) | when(raw > full, RAW_ABOVE);
+    for (unsigned n = KEXBARDI_PERIOD; n <= KEXBARDI_RATE; n++) wrong |= when(has_wrong_digit(w[n]), DIGIT);
+    if (w[0] & KEXBARDI_M1_PROFILE && good_address(w[KEXBARDI_PROFILE_TABLE]))
+        wrong |= wrong_in_table(ours.words + w[KEXBARDI_PROFILE_TABLE], full);
+    return is_transfer(w, record) ? wrong | wrong_transfer(loop, w, raw) : wrong;
+}
+
+static int holds(unsigned wrong, uint8_t number) {
+    for (unsigned n = 0; n < CAUSES; n++)
+        if (wrong >> n & 1 && causes[n].number == number) return 1;
+    return 0;
+}
+
+/* The answer has to be the first number that holds. */
+static void count_wrongs(const char *call, uint8_t answer, unsigned wrong, struct wrongs *wrongs) {
+    unsigned first = 0;
+    while (first < ORDER && !holds(wrong, order[first])) first++;
+    if (answer != (first < ORDER ? order[first] : 0)) differ(call, "the answer and what is wrong");
+    for (unsigned n = 0; n < CAUSES; n++) wrongs->alone[n] += wrong == 1u << n;
+    for (unsigned n = first + 1; n < ORDER; n++) wrongs->before[first][n] += holds(wrong, order[n]);
+}
+
 /* A1, with the root on: the PV below the exact root or above it, and at r x r + r, the last product that goes down */
 static void count_root(uint64_t raw, unsigned full, uint64_t pv) {
     uint64_t v = raw * full;
@@ -740,13 +856,10 @@ static enum reached wrong_pointer(unsigned loop, unsigned pointer) {
     return at == KEXBARDI_OUTPUT - 1 || at == KEXBARDI_OUTPUT + 1 ? BESIDE_OUTPUT : NO_OUTPUT;
 }
 
-/* A transfer that was refused with 8, 9 or 11. */
-static void count_transfer_refusal(uint8_t answer, unsigned loop, const struct former *former, uint64_t raw) {
+/* A transfer that was refused with 11. */
+static void count_transfer_refusal(unsigned loop, const struct former *former, uint64_t raw) {
     const uint16_t *major = ours.words + (former->major ? KEXBARDI_ADDRESS(former->major, 0) : 0);
     uint64_t low = major[KEXBARDI_OUTPUT_LOW], high = major[KEXBARDI_OUTPUT_HIGH];
-    reached[BEHIND_8] += answer == 8 && !former->major && former->words[KEXBARDI_POINTER] < KEXBARDI_WORDS;
-    reached[BEHIND_9] += answer == 9 && (!former->major || raw > high);
-    if (answer != 11) return;
     if (!former->major) reached[wrong_pointer(loop, former->words[KEXBARDI_POINTER])]++;
     else if (former->words[0] & KEXBARDI_M1_ROOT) reached[BY_ROOT]++;
     else {
@@ -755,15 +868,6 @@ static void count_transfer_refusal(uint8_t answer, unsigned loop, const struct f
         reached[HIGH] += raw > high;
         reached[JUST_HIGH] += raw == high + 1;
     }
-}
-
-/* Whether a sample that was refused would be accepted with another value in one word. */
-static int accepted_with(unsigned address, unsigned value, unsigned loop, uint64_t raw) {
-    static struct desk without;
-    memcpy(without.words, ours.words, sizeof without.words);
-    memcpy(without.records, ours.records, sizeof without.records);
-    without.words[address] = (uint16_t)value;
-    return plain_sample(without.words, KEXBARDI_WORDS, without.records, KEXBARDI_NUMBERS, loop, raw, without.line) == 0;
 }
 
 /* of a table's ramps */
@@ -776,31 +880,14 @@ static unsigned highest_end(unsigned table) {
     return highest;
 }
 
-/* A sample that was refused with 7 or 8 while the profile has a table: whether without the profile it would not have been. */
-static void count_refusal(uint8_t answer, unsigned loop, uint64_t raw) {
-    unsigned mode_1 = KEXBARDI_ADDRESS(loop, KEXBARDI_MODE_1), table = ours.words[KEXBARDI_ADDRESS(loop, KEXBARDI_PROFILE_TABLE)];
-    if (!(ours.words[mode_1] & KEXBARDI_M1_PROFILE) || !good_address(table)) return;
-    if (!accepted_with(mode_1, ours.words[mode_1] & ~(unsigned)KEXBARDI_M1_PROFILE, loop, raw)) return;
-    reached[answer == 7 ? TABLE_DIGIT : TABLE_END]++;
-    reached[END_BY_INPUT] += answer == 8 && highest_end(table) <= output_scale(ours.words[KEXBARDI_ADDRESS(loop, KEXBARDI_MODE_2)]);
-}
-
-/* A sample that was refused with 8: whether it was for the bits of mode 2 alone, or for one word that is within one scale and above
- * the other. */
-static void count_format_refusal(unsigned loop, uint64_t raw) {
-    const unsigned outputs = KEXBARDI_M2_OUTPUT_FIFTEEN_BITS | KEXBARDI_M2_OUTPUT_SIXTEEN_BITS, bipolar = 1u << 11;
-    unsigned base = KEXBARDI_ADDRESS(loop, 0), mode_2 = base + KEXBARDI_MODE_2, formats = ours.words[mode_2];
-    unsigned full = full_scale(formats), out_full = output_scale(formats), high = ours.words[base + KEXBARDI_OUTPUT_HIGH];
-    unsigned setpoint = ours.words[base + KEXBARDI_SETPOINT], followed = ours.words[base + KEXBARDI_POINTER];
-    if (formats & bipolar && accepted_with(mode_2, formats & ~bipolar, loop, raw)) reached[BY_BIT_11]++;
-    if (!(formats & KEXBARDI_M2_OUTPUT_FORMAT) && formats & outputs && accepted_with(mode_2, formats & ~outputs, loop, raw))
-        reached[BY_BITS_12_13]++;
-    if (high > out_full && high <= full && accepted_with(base + KEXBARDI_OUTPUT_HIGH, out_full, loop, raw)) reached[LIMIT_BY_OUTPUT]++;
-    if (setpoint > full && setpoint <= out_full && accepted_with(base + KEXBARDI_SETPOINT, full, loop, raw))
-        reached[SETPOINT_BY_INPUT]++;
-    if (followed < KEXBARDI_WORDS && ours.words[followed] > full && ours.words[followed] <= out_full
-        && accepted_with(followed, full, loop, raw))
-        reached[FOLLOWED_BY_INPUT]++;
+/* A sample that was refused for one cause alone: whether its number is within the scale that is not its own. */
+static void count_scale_refusal(const uint16_t *w, unsigned wrong, uint64_t raw) {
+    unsigned full = full_scale(w[KEXBARDI_MODE_2]), out_full = output_scale(w[KEXBARDI_MODE_2]);
+    reached[LIMIT_BY_OUTPUT] += wrong == 1u << HIGH_ABOVE_SCALE && w[KEXBARDI_OUTPUT_HIGH] <= full;
+    reached[SETPOINT_BY_INPUT] += wrong == 1u << SETPOINT_ABOVE && w[KEXBARDI_SETPOINT] <= out_full;
+    reached[FOLLOWED_BY_INPUT] += wrong == 1u << FOLLOWED_ABOVE && ours.words[w[KEXBARDI_POINTER]] <= out_full;
+    reached[END_BY_INPUT] += wrong == 1u << TABLE_END && highest_end(w[KEXBARDI_PROFILE_TABLE]) <= out_full;
+    reached[RAW_BY_INPUT] += wrong == 1u << RAW_ABOVE && raw <= out_full;
 }
 
 /* Raw PVs whose root lies next to r + 1/2 (A1): two whose product with full scale is r x r + r, two with the least above one. */
@@ -840,33 +927,41 @@ static unsigned raw_pv(const uint16_t *w, const struct former *former) {
     return (unsigned)(raw < 0 ? 0 : raw > full ? full : raw);
 }
 
+/* An accepted sample, the words behind it. */
+static void count_accepted(unsigned loop, const struct former *former, const uint16_t *w, uint64_t raw) {
+    const int64_t *record = ours.records + KEXBARDI_FIELDS * (loop - 1);
+    accepted++;
+    count_features(former->words[0], w, record, ours.line[KEXBARDI_LINE_SETPOINT], ours.line[KEXBARDI_LINE_PV], raw);
+    count_profile_features(former, w);
+    count_cascade_features(loop, former, w);
+    count_format_features(former, w, record, last_mode_2s[loop - 1]);
+    last_mode_2s[loop - 1] = w[KEXBARDI_MODE_2];
+}
+
 /* Answers the refusal. */
-static uint8_t sample(unsigned number) {
-    uint64_t loop = widened(number, 8);
-    unsigned known = (unsigned)((loop - 1) % KEXBARDI_LOOPS) + 1;
+static uint8_t sample_with(uint64_t loop, uint64_t raw) {
+    unsigned known = (unsigned)((loop - 1) % KEXBARDI_LOOPS) + 1, wrong = wrong_with(known, raw);
     const uint16_t *w = ours.words + KEXBARDI_ADDRESS(known, 0);
     struct former former;
     take_former(&former, known);
-    uint64_t raw = widened(raw_pv(w, &former), 16);
     size_t words = length_of(KEXBARDI_WORDS), records = length_of(KEXBARDI_NUMBERS);
     uint8_t a = kexbardi_sample(ours.words, words, ours.records, records, loop, raw, ours.line);
     compare("sample", a, plain_sample(plain.words, words, plain.records, records, loop, raw, plain.line));
     wide_refusals[a] += loop > 255 || raw > 65535;
-    if (a == 0) {
-        accepted++;
-        count_features(former.words[0], w, ours.records + KEXBARDI_FIELDS * (loop - 1), ours.line[KEXBARDI_LINE_SETPOINT],
-            ours.line[KEXBARDI_LINE_PV], raw);
-        count_profile_features(&former, w);
-        count_cascade_features(known, &former, w);
-        count_format_features(&former, w, ours.records + KEXBARDI_FIELDS * (loop - 1), last_mode_2s[known - 1]);
-        last_mode_2s[known - 1] = w[KEXBARDI_MODE_2];
-    }
-    if (a == 7 || a == 8) count_refusal(a, known, raw);
-    if (a == 8) count_format_refusal(known, raw);
-    reached[RAW_BY_INPUT] += a == 9 && raw <= output_scale(w[KEXBARDI_MODE_2]);
-    if (a >= 8 && is_transfer(former.words, former.record)) count_transfer_refusal(a, known, &former, raw);
-    if (a >= 7) reached[MARK_STAYS] += mark_of(known) == 1;
+    if (a == 4 || a == 5) return a;
+    count_wrongs("sample", a, wrong, &of_samples);
+    if (a == 0) count_accepted(known, &former, w, raw);
+    else reached[MARK_STAYS] += mark_of(known) == 1, count_scale_refusal(w, wrong, raw);
+    if (a == 11) count_transfer_refusal(known, &former, raw);
     return a;
+}
+
+static uint8_t sample(unsigned number) {
+    uint64_t loop = widened(number, 8);
+    unsigned known = (unsigned)((loop - 1) % KEXBARDI_LOOPS) + 1;
+    struct former former;
+    take_former(&former, known);
+    return sample_with(loop, widened(raw_pv(ours.words + KEXBARDI_ADDRESS(known, 0), &former), 16));
 }
 
 /* A forecast that was accepted: from what state. */
@@ -892,10 +987,11 @@ static void forecast(unsigned number) {
     forecast_refusals[a]++;
     if (ours.samples != plain.samples) differ("forecast", "counts");
     if (a != 0 && ours.samples != (uint64_t)before) differ("forecast", "counts before and behind a refusal");
-    if (a != 0 && a != 11) return;
+    if (a == 4 || a == 5) return;
     const uint16_t *w = ours.words + KEXBARDI_ADDRESS(loop, 0);
+    count_wrongs("forecast", a, wrong_with((unsigned)loop, 0), &of_forecasts);
     if (a == 0) count_forecast(w, ours.records + KEXBARDI_FIELDS * (loop - 1));
-    else reached[major_of((unsigned)loop, w) ? FORECAST_LIMIT : FORECAST_POINTER]++;
+    if (a == 11) reached[major_of((unsigned)loop, w) ? FORECAST_LIMIT : FORECAST_POINTER]++;
 }
 
 static void record(unsigned number) {
@@ -914,11 +1010,22 @@ static void file_transfer(unsigned loop, unsigned full) {
     file_store(mode_1, KEXBARDI_M1_CASCADE | others), file_sample(loop, any(full + 1));
 }
 
+/* A setting that is refused and a sample; the setting mended and another, now and then with the highest raw PV. */
+static void file_fault(unsigned loop) {
+    static const uint16_t faults[][3] = {/* offset, wrong, right */
+        {KEXBARDI_GAIN, 0x000A, 0x0010}, {KEXBARDI_MODE_1, 0x0202, 0x0002}, {KEXBARDI_PERIOD, 0x0004, 0x0005}, {KEXBARDI_RESET, 0, 1},
+        {KEXBARDI_OUTPUT_LOW, 65535, 0}, {KEXBARDI_SETPOINT, 65535, 0}, {KEXBARDI_POINTER, 1024, 600}};
+    const uint16_t *fault = faults[any(sizeof faults / sizeof *faults)];
+    file_store(KEXBARDI_ADDRESS(loop, fault[0]), fault[1]), file_sample(loop, any(4096));
+    file_store(KEXBARDI_ADDRESS(loop, fault[0]), fault[2]), file_sample(loop, once_in(4) ? 65535 : any(4096));
+}
+
 /* samples, changed settings and odd records; now and then damaged or cut */
 static void fill_file(unsigned loop, unsigned full) {
     for (unsigned left = any(40); left > 0; left--) {
         unsigned length = any(10);
         if (once_in(10)) file_transfer(loop, full);
+        else if (once_in(10)) file_fault(loop);
         else if (any(6)) file_sample(once_in(20) ? any(256) : once_in(3) ? 1 + any(16) : loop, any(full + 1));
         else if (any(4)) change(file_store, loop);
         else for (pair(length); length > 0; length--) byte(once_in(3) ? 1 + any(2) : any(2) * any(17));
@@ -950,9 +1057,18 @@ static void run(unsigned loop) {
     if (ours.count != plain.count || ours.refused != plain.refused) differ("run", "counts");
     if (memcmp(ours.answers, plain.answers, sizeof ours.answers) != 0) differ("run", "answers to records");
     for (size_t n = 0; a == 0 && n < room && n < ours.count; n++)
-        if (ours.answers[n] > 0 && ours.answers[n] <= HIGHEST) refusals[ours.answers[n]]++;
+        if (ours.answers[n] > 0 && ours.answers[n] <= HIGHEST) refusals[ours.answers[n]]++, file_refusals[ours.answers[n]]++;
     reached[BY_FILE] += is_marked(before);
     forget_formats();
+}
+
+/* how many lines of the text say that a record was refused with a number */
+static unsigned long lines_with(unsigned number) {
+    char words[32];
+    size_t length = (size_t)sprintf(words, " refused %u\n", number);
+    unsigned long lines = 0;
+    for (size_t n = 0; n + length <= ours.length; n++) lines += memcmp(ours.text + n, words, length) == 0;
+    return lines;
 }
 
 static void print(void) {
@@ -968,6 +1084,7 @@ static void print(void) {
     uint8_t a = kexbardi_print(from, bytes, ours.text, room, &ours.length);
     compare("print", a, plain_print(from, bytes, plain.text, room, &plain.length));
     if (ours.length != plain.length || memcmp(ours.text, plain.text, sizeof ours.text) != 0) differ("print", "texts");
+    for (unsigned n = 1; a == 0 && n <= HIGHEST; n++) printed[n] += lines_with(n);
 }
 
 /* The length of the words is wrong more often than in other calls, of which there are more. */
@@ -1037,7 +1154,7 @@ static void mend_transfer(unsigned loop) {
 static void mend(unsigned loop, uint8_t answer) {
     if (answer == 0 || any(3)) return;
     if (answer == 5) write_record(loop);
-    if (answer == 7 || answer == 8) settle(once_in(2) ? store : write_word, loop), write_word(600, any(4096));
+    if (answer == 7 || answer == 8 || answer >= 12) settle(once_in(2) ? store : write_word, loop), write_word(600, any(4096));
     if (answer == 11) mend_transfer(loop);
 }
 
@@ -1105,6 +1222,84 @@ static void run_formats(unsigned loop) {
     }
 }
 
+static void put_on(unsigned address, unsigned bits) { write_word(address, ours.words[address] | bits); }
+
+/* what is below or above 1 to 200 */
+static unsigned wrong_hysteresis(void) { return any(2) ? 201 + any(any(2) ? 2 : 65335) : 0; }
+
+/* a bit that has no use, or bit 11, or 12 or 13 without bit 10 */
+static void spoil_mode_2(unsigned address, enum cause cause) {
+    static const unsigned unused[] = {0, 2, 3, 5, 6, 7, 14, 15};
+    unsigned own = KEXBARDI_M2_OUTPUT_FORMAT;
+    if (cause == OUTPUT_BITS) write_word(address, (ours.words[address] & ~own) | 1u << (12 + any(2)));
+    else put_on(address, 1u << (cause == BIT_11 ? 11 : unused[any(8)]));
+}
+
+/* N7, N8 */
+static void spoil_bits(unsigned loop, enum cause cause) {
+    unsigned base = KEXBARDI_ADDRESS(loop, 0), table = ours.words[base + KEXBARDI_PROFILE_TABLE], digit = 10u << 4 * any(4);
+    unsigned full = full_scale(ours.words[base + KEXBARDI_MODE_2]);
+    if (cause == TABLE_DIGIT || cause == TABLE_END) put_on(base + KEXBARDI_MODE_1, KEXBARDI_M1_PROFILE);
+    switch (cause) {
+    case DIGIT: write_word(base + KEXBARDI_PERIOD + any(4), digit); break;
+    case TABLE_DIGIT: if (good_address(table)) write_word(table + 4 * any(8) + 1 + any(2), digit); break;
+    case TABLE_END: if (good_address(table)) write_word(table + 4 * any(8), full + 1); break;
+    case VELOCITY_WITH_II: put_on(base + KEXBARDI_MODE_1, KEXBARDI_M1_VELOCITY | KEXBARDI_M1_BUMPLESS_II); break;
+    case BIT_9: put_on(base + KEXBARDI_MODE_1, 1u << 9); break;
+    case PV_HYSTERESIS: put_on(base + KEXBARDI_MODE_1, KEXBARDI_M1_PV_ALARMS); break;
+    case DEVIATION_HYSTERESIS: put_on(base + KEXBARDI_MODE_1, KEXBARDI_M1_DEVIATION_ALARMS); break;
+    default: spoil_mode_2(base + KEXBARDI_MODE_2, cause); break;
+    }
+    if (cause == PV_HYSTERESIS || cause == DEVIATION_HYSTERESIS) write_word(base + KEXBARDI_HYSTERESIS, wrong_hysteresis());
+}
+
+/* N12, N13, N14, N11, at the edge mostly */
+static void spoil_numbers(unsigned loop, enum cause cause) {
+    unsigned base = KEXBARDI_ADDRESS(loop, 0), formats = ours.words[base + KEXBARDI_MODE_2], full = full_scale(formats);
+    unsigned high = ours.words[base + KEXBARDI_OUTPUT_HIGH], followed = ours.words[base + KEXBARDI_POINTER];
+    unsigned major = major_of(loop, ours.words + base);
+    if (cause == SETPOINT_ABOVE) ask_for(loop, 1u << any(2));
+    if (cause == POINTER_ABOVE || cause == FOLLOWED_ABOVE) ask_for(loop, KEXBARDI_M1_CASCADE);
+    switch (cause) {
+    case PERIOD: write_word(base + KEXBARDI_PERIOD, any(5)); break;
+    case RESET_TIME: write_word(base + KEXBARDI_RESET, 0); break;
+    case LOW_ABOVE_HIGH: write_word(base + KEXBARDI_OUTPUT_LOW, high + 1); break;
+    case HIGH_ABOVE_SCALE: write_word(base + KEXBARDI_OUTPUT_HIGH, output_scale(formats) + 1); break;
+    case SETPOINT_ABOVE: write_word(base + KEXBARDI_SETPOINT, full + 1); break;
+    case POINTER_ABOVE: write_word(base + KEXBARDI_POINTER, 1024 + any(any(2) ? 2 : 64512)); break;
+    case FOLLOWED_ABOVE: if (followed < KEXBARDI_WORDS) write_word(followed, full + 1); break;
+    case NO_MAJOR: write_word(base + KEXBARDI_POINTER, any(2) ? 600 : output_of(loop)); break;
+    case OUTSIDE_MAJOR: if (major) write_word(KEXBARDI_ADDRESS(major, KEXBARDI_OUTPUT_LOW), 65535); break;
+    default: break;
+    }
+}
+
+/* A sample and a forecast of a loop with one thing wrong, or with two or three; half of the time where a transfer waits. */
+static void try_faults(unsigned loop) {
+    unsigned base = KEXBARDI_ADDRESS(loop, 0), full = settle(write_word, loop), above = 0;
+    write_word(600, any(full + 1));
+    write_number(KEXBARDI_FIELDS * (loop - 1) + KEXBARDI_FIELD_MODE, any(3));
+    if (once_in(2)) {
+        write_number(KEXBARDI_FIELDS * (loop - 1) + KEXBARDI_FIELD_MODE, KEXBARDI_AUTOMATIC);
+        write_word(base + KEXBARDI_MODE_1, ours.words[base + KEXBARDI_MODE_1] & ~(unsigned)KEXBARDI_M1_BUMPLESS_II);
+        ask_for(loop, KEXBARDI_M1_CASCADE);
+    }
+    for (unsigned left = 1 + any(3); left > 0; left--) {
+        enum cause cause = (enum cause)any(CAUSES);
+        above |= cause == RAW_ABOVE;
+        if (cause <= TABLE_END) spoil_bits(loop, cause);
+        else spoil_numbers(loop, cause);
+    }
+    if (once_in(2)) forecast(loop);
+    full = full_scale(ours.words[base + KEXBARDI_MODE_2]);
+    if (sample_with(loop, above ? full + 1 + any(2) * any(65536) : any(full + 1)) == 5) write_record(loop);
+}
+
+static void run_faults(unsigned loop) {
+    for (unsigned left = 5 + any(20); left > 0; left--) try_faults(loop);
+    settle(write_word, loop);
+}
+
 /* A sample, now and then with a command. */
 static void sample_and_mend(unsigned loop) {
     if (once_in(16)) write_word(KEXBARDI_ADDRESS(loop, KEXBARDI_PROFILE_FLAGS), command(loop));
@@ -1113,7 +1308,8 @@ static void sample_and_mend(unsigned loop) {
 
 static void turn(void) {
     unsigned loop = 1 + any(16), kind = any(10000);
-    if (kind < 8170) sample_and_mend(loop);
+    if (kind < 8130) sample_and_mend(loop);
+    else if (kind < 8170) run_faults(loop);
     else if (kind < 8220) run_profile(loop);
     else if (kind < 8270) run_cascade(loop);
     else if (kind < 8300) run_formats(loop);
@@ -1131,8 +1327,35 @@ static void turn(void) {
     else reset();
 }
 
+/* Each cause alone, and each two numbers at once, but for those of one number; answers how many never happened. */
+static int report_wrongs(const char *call, const struct wrongs *wrongs, uint8_t without) {
+    int missing = 0;
+    for (unsigned n = 0; n < CAUSES; n++) {
+        if (causes[n].number == without) continue;
+        printf("%srefused with %u for %s alone: %lu\n", call, causes[n].number, causes[n].name, wrongs->alone[n]);
+        missing += wrongs->alone[n] == 0;
+    }
+    for (unsigned n = 0; n < ORDER; n++)
+        for (unsigned m = n + 1; m < ORDER; m++) {
+            if (order[n] == without || order[m] == without) continue;
+            printf("%srefused with %u before %u: %lu\n", call, order[n], order[m], wrongs->before[n][m]);
+            missing += wrongs->before[n][m] == 0;
+        }
+    return missing;
+}
+
+/* The same numbers as answers to samples in a file, and in its lines. */
+static int report_files(void) {
+    int missing = 0;
+    for (unsigned n = 0; n < ORDER; n++) {
+        printf("refused with %u in a file: %lu, printed: %lu\n", order[n], file_refusals[order[n]], printed[order[n]]);
+        missing += (file_refusals[order[n]] == 0) + (printed[order[n]] == 0);
+    }
+    return missing;
+}
+
 static int report(void) {
-    static const int wide[] = {4, 6, 9}, of_forecast[] = {4, 5, 7, 8, 11}, of_setup[] = {0, 5, 10};
+    static const int wide[] = {4, 6, 9}, of_forecast[] = {4, 5, 7, 8, 12, 13, 14, 11}, of_setup[] = {0, 5, 10};
     int missing = 0;
     printf("%lu calls, %lu samples accepted\n", calls, accepted);
     for (int n = 1; n <= HIGHEST; n++) printf("refused with %d: %lu\n", n, refusals[n]), missing += refusals[n] == 0;
@@ -1146,10 +1369,11 @@ static int report(void) {
             missing += pairs[in][out] == 0;
         }
     for (int n = 0; n < REACHED; n++) printf("%s: %lu\n", reached_names[n], reached[n]), missing += reached[n] == 0;
-    for (int n = 0; n < 5; n++) {
+    for (int n = 0; n < 8; n++) {
         printf("forecast refused with %d: %lu\n", of_forecast[n], forecast_refusals[of_forecast[n]]);
         missing += forecast_refusals[of_forecast[n]] == 0;
     }
+    missing += report_wrongs("", &of_samples, 0) + report_wrongs("forecast ", &of_forecasts, 9) + report_files();
     for (int n = 0; n < 3; n++)
         printf("setup answered with %d: %lu\n", of_setup[n], setup_refusals[of_setup[n]]), missing += setup_refusals[of_setup[n]] == 0;
     if (missing) printf("%d of these never happened\n", missing);

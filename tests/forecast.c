@@ -265,7 +265,7 @@ static void by_hand(void) {
     /* In Cascade word 2 may stand above full scale: 65,535 down to 20 by 2.50, 26,206 samples, and 6, 1, 1 about it. */
     *word(2, KEXBARDI_SETPOINT) = 65535;
     uint64_t samples = UNTOUCHED;
-    equals("in Manual it is refused", forecast_of(KEXBARDI_WORDS, KEXBARDI_NUMBERS, 2, &samples), 8);
+    equals("in Manual it is refused", forecast_of(KEXBARDI_WORDS, KEXBARDI_NUMBERS, 2, &samples), 14);
     equals("the count", samples, UNTOUCHED);
     *word(2, KEXBARDI_MODE_1) |= KEXBARDI_M1_CASCADE;
     equals("in Cascade", forecast(2), 26214);
@@ -314,7 +314,7 @@ static void wrong_calls(void) {
     for (unsigned n = 0; n < sizeof numbers / sizeof *numbers; n++) refuses("numbers", KEXBARDI_WORDS, numbers[n], 3, 5);
     for (unsigned n = 0; n < sizeof loops / sizeof *loops; n++) refuses("loop", KEXBARDI_WORDS, KEXBARDI_NUMBERS, loops[n], 4);
     refuses("lengths before the loop", 1023, KEXBARDI_NUMBERS, 17, 5);
-    refuses("a loop that is all zeros", KEXBARDI_WORDS, KEXBARDI_NUMBERS, 4, 8);
+    refuses("a loop that is all zeros", KEXBARDI_WORDS, KEXBARDI_NUMBERS, 4, 12);
 }
 
 static void wrong_records(void) {
@@ -360,6 +360,36 @@ static void wrong_digits(void) {
     equals("the count", forecast(3), 16);
 }
 
+/* a word of loop 3 by its offset, or one of no loop by its address */
+static uint16_t *word_at(unsigned offset) { return offset < KEXBARDI_LOOP_WORDS ? word(3, offset) : desk.words + offset; }
+
+/* A word of loop 3, or 700, to which its pointer leads: the last value that is right, the first that is wrong, bits of mode 1 that are
+ * on, and the modes in which it is refused. */
+struct wrong_word {
+    const char *name;
+    uint16_t offset, right, wrong, mode_1, requests;
+    uint8_t number;
+};
+
+enum { OUTSIDE = KEXBARDI_M1_MANUAL | KEXBARDI_M1_AUTOMATIC, IN_CASCADE = KEXBARDI_M1_CASCADE, IN_ALL = OUTSIDE | IN_CASCADE };
+static const struct wrong_word wrong_words[] = {
+    {"bit 9", KEXBARDI_MODE_1, 0x0400, 0x0200, 0, IN_ALL, 8},
+    {"velocity with Bumpless II", KEXBARDI_MODE_1, 0, KEXBARDI_M1_BUMPLESS_II, KEXBARDI_M1_VELOCITY, IN_ALL, 8},
+    {"mode 2", KEXBARDI_MODE_2, 0x0100, 0x0001, 0, IN_ALL, 8},
+    {"mode 2 without bit 10", KEXBARDI_MODE_2, 0x3400, 0x1000, 0, IN_ALL, 8},
+    {"hysteresis of PV alarms", KEXBARDI_HYSTERESIS, 1, 0, KEXBARDI_M1_PV_ALARMS, IN_ALL, 8},
+    {"hysteresis of PV alarms", KEXBARDI_HYSTERESIS, 200, 201, KEXBARDI_M1_PV_ALARMS, IN_ALL, 8},
+    {"hysteresis of deviation alarms", KEXBARDI_HYSTERESIS, 1, 0, KEXBARDI_M1_DEVIATION_ALARMS, IN_ALL, 8},
+    {"hysteresis of deviation alarms", KEXBARDI_HYSTERESIS, 200, 201, KEXBARDI_M1_DEVIATION_ALARMS, IN_ALL, 8},
+    {"period", KEXBARDI_PERIOD, 0x0005, 0x0004, 0, IN_ALL, 12},
+    {"reset", KEXBARDI_RESET, 0x0001, 0, 0, IN_ALL, 12},
+    {"low limit", KEXBARDI_OUTPUT_LOW, 4095, 4096, 0, IN_ALL, 13},
+    {"high limit", KEXBARDI_OUTPUT_HIGH, 4095, 4096, 0, IN_ALL, 13},
+    {"setpoint", KEXBARDI_SETPOINT, 4095, 4096, 0, OUTSIDE, 14},
+    {"pointer", KEXBARDI_POINTER, 1023, 1024, 0, IN_CASCADE, 14},
+    {"word at the pointer", 700, 4095, 4096, 0, IN_CASCADE, 14},
+};
+
 static void wrong_settings(void) {
     for (unsigned k = 1; k <= KEXBARDI_SEGMENTS; k += 2) {
         begin_running("ends");
@@ -369,21 +399,46 @@ static void wrong_settings(void) {
         *field(3, KEXBARDI_FIELD_SEGMENT) = 0;
         refuses("and where no profile runs", KEXBARDI_WORDS, KEXBARDI_NUMBERS, 3, 8);
     }
-    begin_running("settings");
-    refuses_word("period", word(3, KEXBARDI_PERIOD), 0x0005, 0x0004, 8);
-    begin_running("settings");
-    refuses_word("reset", word(3, KEXBARDI_RESET), 0x0001, 0, 8);
-    begin_running("settings");
-    refuses_word("output limit", word(3, KEXBARDI_OUTPUT_HIGH), 4095, 4096, 8);
-    begin_running("settings");
-    refuses_word("setpoint", word(3, KEXBARDI_SETPOINT), 4095, 4096, 8);
-    begin_running("settings");
-    refuses_word("bit 9", word(3, KEXBARDI_MODE_1), KEXBARDI_M1_PROFILE, KEXBARDI_M1_PROFILE | 0x0200, 8);
-    begin_running("settings");
-    refuses_word("mode 2", word(3, KEXBARDI_MODE_2), 0x0100, 0x0001, 8);
-    begin_running("settings");
-    *word(3, KEXBARDI_MODE_1) |= KEXBARDI_M1_CASCADE;
-    refuses_word("pointer", word(3, KEXBARDI_POINTER), 1023, 1024, 8);
+    for (unsigned n = 0; n < sizeof wrong_words / sizeof *wrong_words; n++) {
+        const struct wrong_word *w = &wrong_words[n];
+        for (unsigned request = KEXBARDI_M1_MANUAL; request <= KEXBARDI_M1_CASCADE; request *= 2) {
+            if (!(w->requests & request)) continue;
+            begin_running("settings");
+            *word(3, KEXBARDI_MODE_1) |= (uint16_t)(w->mode_1 | request);
+            *word(3, KEXBARDI_HYSTERESIS) = 10, *word(3, KEXBARDI_POINTER) = 700;
+            unsigned others = w->offset == KEXBARDI_MODE_1 ? *word(3, KEXBARDI_MODE_1) : 0;
+            refuses_word(w->name, word_at(w->offset), w->right | others, w->wrong | others, w->number);
+        }
+    }
+}
+
+/* A word for each number, the one that is tested last first: each is told while those before it stay wrong. The table stands at 512,
+ * and the pointer leads to 700. */
+struct fault {
+    uint16_t offset, wrong;
+    uint8_t number;
+};
+
+static const struct fault chains[2][5] = {
+    {{700, 4096, 14}, {KEXBARDI_OUTPUT_HIGH, 4096, 13}, {KEXBARDI_RESET, 0, 12}, {512 + KEXBARDI_END, 4096, 8}, {513, 0x000A, 7}},
+    {{KEXBARDI_POINTER, 1024, 14}, {KEXBARDI_OUTPUT_LOW, 4096, 13}, {KEXBARDI_PERIOD, 4, 12}, {KEXBARDI_HYSTERESIS, 0, 8},
+        {KEXBARDI_RATE, 0x000A, 7}},
+};
+
+/* in Cascade by way of Manual, so no transfer; with a profile that runs, and with none */
+static void first_of_several(void) {
+    for (unsigned n = 0; n < 4; n++) {
+        begin_running("first of several");
+        *word(3, KEXBARDI_MODE_1) |= KEXBARDI_M1_CASCADE | KEXBARDI_M1_PV_ALARMS;
+        *word(3, KEXBARDI_POINTER) = 700, *word(3, KEXBARDI_HYSTERESIS) = 10;
+        if (n >= 2) *field(3, KEXBARDI_FIELD_SEGMENT) = 0;
+        equals("none is wrong", forecast(3), n < 2 ? 16 : 0);
+        for (unsigned k = 0; k < 5; k++) {
+            const struct fault *fault = &chains[n % 2][k];
+            *word_at(fault->offset) = fault->wrong;
+            refuses("the first that holds", KEXBARDI_WORDS, KEXBARDI_NUMBERS, 3, fault->number);
+        }
+    }
 }
 
 /* Loop 3 in Automatic with Cascade requested and Bumpless I: a forecast takes 0 for p. Loop 4's limits are 0 and 0. */
@@ -409,13 +464,20 @@ static void wrong_transfers(void) {
         equals("no change", forecast(3), 0);
     }
     begin_transfer();
+    *word(3, KEXBARDI_POINTER) = 700, desk.words[700] = 4096;
+    refuses("a setpoint before a pointer to no output", KEXBARDI_WORDS, KEXBARDI_NUMBERS, 3, 14);
+    desk.words[700] = 4095;
+    refuses("the pointer alone", KEXBARDI_WORDS, KEXBARDI_NUMBERS, 3, 11);
+    begin_transfer();
     refuses_word("0 below the low limit", word(4, KEXBARDI_OUTPUT_LOW), 0, 1, 11);
     *word(4, KEXBARDI_OUTPUT_HIGH) = 4095;
     refuses("whatever the high one", KEXBARDI_WORDS, KEXBARDI_NUMBERS, 3, 11);
+    *word(4, KEXBARDI_OUTPUT) = 4096;
+    refuses("a setpoint before it", KEXBARDI_WORDS, KEXBARDI_NUMBERS, 3, 14);
     *word(3, KEXBARDI_PERIOD) = 0x0004;
-    refuses("a setting before it", KEXBARDI_WORDS, KEXBARDI_NUMBERS, 3, 8);
+    refuses("a time before both", KEXBARDI_WORDS, KEXBARDI_NUMBERS, 3, 12);
     *word(3, KEXBARDI_RATE) = 0x000A;
-    refuses("a digit before both", KEXBARDI_WORDS, KEXBARDI_NUMBERS, 3, 7);
+    refuses("a digit before them", KEXBARDI_WORDS, KEXBARDI_NUMBERS, 3, 7);
 }
 
 int main(int count, char **args) {
@@ -429,6 +491,7 @@ int main(int count, char **args) {
     wrong_records();
     wrong_digits();
     wrong_settings();
+    first_of_several();
     wrong_transfers();
     printf("%u passed, %u failed\n", passed, failed);
     return failed != 0;

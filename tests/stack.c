@@ -198,7 +198,14 @@ static void refused_samples(void) {
     answers_with(KEXBARDI_MEMORY, CALL(SAMPLE, SHORT, 1, 0, AT(line)), "kexbardi_sample");
     answers_with(KEXBARDI_LOOP, sample(17, 0), "kexbardi_sample");
     answers_with(KEXBARDI_ABOVE, sample(1, 4096), "kexbardi_sample");
+    set(1, KEXBARDI_SETPOINT, 4096);
+    answers_with(KEXBARDI_SETTING_SETPOINT, sample(1, 0), "kexbardi_sample");
+    set(1, KEXBARDI_OUTPUT_LOW, 4096);
+    answers_with(KEXBARDI_SETTING_LIMITS, sample(1, 0), "kexbardi_sample");
     set(1, KEXBARDI_PERIOD, KEXBARDI_BCD(4));
+    answers_with(KEXBARDI_SETTING_TIMES, sample(1, 0), "kexbardi_sample");
+    answers_with(KEXBARDI_SETTING_TIMES, CALL(FORECAST, DESK, 1, AT(&samples)), "kexbardi_forecast");
+    set(1, KEXBARDI_MODE_2, 1);
     answers_with(KEXBARDI_SETTING, sample(1, 0), "kexbardi_sample");
     desk.words[KEXBARDI_TABLE_FIRST + KEXBARDI_SLOPE] = 0x000A;
     answers_with(KEXBARDI_DIGIT, sample(1, 0), "kexbardi_sample");

@@ -3,20 +3,16 @@ use Prim.Native.Nat.{ℕ, _+_, _%_, _≤_, _<_}
 use native.Mathlib.Omega.{arith}
 use mathlib.Core.Path.{_≡_, refl, sym, ap, _∙_, subst}
 use mathlib.Core.Bool.{Bool, true, false, _&&_, _||_}
-use mathlib.Core.Logic.{inl, inr}
 use mathlib.Core.List.{List, [], _∷_, append-nil}
-use lib.Dec.{ltb, eqb}
+use lib.Dec.{ltb, eqb, lit≤}
 use lib.IntN.{ℤ, pos}
 use lib.ListN.{length, drop, set, replicate, length-take, length-drop, drop-of-length-le}
 use lib.Seq.{sets, sets-eq}
 use borrow.Author.Tests.{ne-eqb, eq-eqb, lt-ltb, le-ltb, ltb-true, ltb-false}
 use Rattle.refusals.specs.declared.Answer.{Answer}
 use Rattle.refusals.specs.declared.Answer.the-variants.{Accepted, Refused}
-use Rattle.refusals.specs.declared.Refusal.the-variants.{Setting, Above}
-use Rattle.refusals.specs.declared.Refusal.the-variants.{Transfer as NoTransfer}
-use Rattle.refusals.specs.Refusals.{numberOf, _⇒_, firstOf}
+use Rattle.refusals.specs.Refusals.{numberOf}
 use Rattle.refusals.specs.Refusals.Laws.{in-table, accepted-only, first-of-kind}
-use Rattle.table.specs.declared.reading.Reading.{Reading}
 use Rattle.table.specs.Words.{any}
 use Rattle.table.specs.declared.transfer.Major.{Major}
 use Rattle.table.specs.Transfers.{majorIn}
@@ -24,24 +20,30 @@ use Rattle.table.specs.Transfers.Laws.{major-read}
 use Rattle.carried.specs.Layout.{fieldCount, numberCount, slotOf, numbersAt, recordAt, outOfRange}
 use Rattle.judging.specs.Judging.{badMajor}
 use Rattle.judging.specs.Judging.Laws.{Handed, major-good, good-major}
-use Rattle.engine.specs.Sensing.{pvIn}
-use Rattle.desk.specs.Desk.{Desk, lent, fittingOf, memoryCases, noLoop, resetAnswer, resetLeft, engineWord, storeCases, storeAnswer, storeLeft, readingAt, judgedCases, sampleCases, sampleAnswer, remainingOf, countedBy, forecastAt, copiedBy, fieldsAnswer, fieldsLeft}
-use Rattle.desk.specs.Desk.Laws.{sound, there-loop, answer-ranged, reset-sound, reset-numbers}
+use Rattle.desk.specs.Desk.{Desk, lent, fittingOf, memoryCases, noLoop, resetAnswer, resetLeft, engineWord, storeCases, storeAnswer, storeLeft, readingAt, sampleCases, sampleAnswer, remainingOf, countedBy, forecastAt, copiedBy, fieldsAnswer, fieldsLeft}
+use Rattle.desk.specs.Desk.Laws.{sound, there-loop, reset-sound, reset-numbers}
 use Rattle.desk.specs.Lists.{Call, reset, store, sample, answerTo, deskAfter}
 use Rattle.desk.specs.Lists.Laws.{refused-call, unfit}
 use Rattle.kexbardi.specs.Interface.{lineLeft}
 use Rattle.kexbardi_profiles.specs.Told.{toldBy}
 use Rattle.setups.specs.Setup.{setupOf, setupAnswer, setupLeft}
 use Rattle.kexbardi_files.specs.Files.{filled, setupFilled}
-use Rattle.claims.specs.Calls.{Answered, Reserved, pv, bias, status, profile, Settled, transferAt, pvAt, ToMajor, Rows, Called}
+use Rattle.claims.specs.Calls.{Answered, Reserved, pv, bias, status, profile, transferAt, pvAt, ToMajor, Called}
 
--- the answer to a call is 0, a number up to 9, or 11
+-- the answer to a call is 0, or a number up to 14, and never 10
+pub small : {n : ℕ} → n ≤ 9 → Answered n
+small h = (omega arith, λ e. omega arith)
+
+large : {n : ℕ} → n ≤ 14 → 11 ≤ n → Answered n
+large h low = (h, λ e. omega arith)
+
 pub told : (d : Desk) (call : Call) → Answered (numberOf (answerTo d call))
 unfolding answerTo resetAnswer storeAnswer sampleAnswer
-told d reset = first-of-kind Answered (inl (omega arith)) (memoryCases d) (inl (omega arith), tt)
-told d (store address value) = first-of-kind Answered (inl (omega arith)) (storeCases d address) (inl (omega arith), (inl (omega arith), (inl (omega arith), tt)))
+told d reset = first-of-kind Answered (small (lit≤ tt)) (memoryCases d) (small (lit≤ tt), tt)
+told d (store address value) = first-of-kind Answered (small (lit≤ tt)) (storeCases d address) (small (lit≤ tt), (small (lit≤ tt), (small (lit≤ tt), tt)))
 told d (sample k raw) =
-    first-of-kind Answered (inl (omega arith)) (sampleCases d k raw) (inl (omega arith), (inl (omega arith), (inl (omega arith), (inl (omega arith), (inl (omega arith), (inl (omega arith), (inl (omega arith), (inl (omega arith), (inl (omega arith), (inl (omega arith), (inr refl, tt)))))))))))
+    first-of-kind Answered (small (lit≤ tt)) (sampleCases d k raw)
+    (small (lit≤ tt), (small (lit≤ tt), (small (lit≤ tt), (small (lit≤ tt), (small (lit≤ tt), (large (lit≤ tt) (lit≤ tt), (large (lit≤ tt) (lit≤ tt), (large (lit≤ tt) (lit≤ tt), (small (lit≤ tt), (large (lit≤ tt) (lit≤ tt), tt))))))))))
 
 pub fitting : (d : Desk) → length (d .words) ≡ 1024 → length (d .numbers) ≡ numberCount → fittingOf d ≡ true
 unfolding fittingOf
@@ -114,31 +116,6 @@ no-such-loop k wrong = go (ltb k 1) refl (ltb 16 k) refl
     go false e true f = rw (e, f)
     go false e false f = absurd (wrong (ltb-false k 1 e, ltb-false 16 k f))
 
--- one of the groups of N8 holds
-one-of : (modes ends times limits setpoint above transfer : Bool) → (modes ≡ false → ends ≡ false → times ≡ false → limits ≡ false → setpoint ≡ false → ⊥)
-    → numberOf (firstOf ((modes ⇒ Setting) ∷ (ends ⇒ Setting) ∷ (times ⇒ Setting) ∷ (limits ⇒ Setting) ∷ (setpoint ⇒ Setting) ∷ (above ⇒ Above) ∷ (transfer ⇒ NoTransfer) ∷ [])) ≡ 8
-one-of true ends times limits setpoint above transfer some = refl
-one-of false true times limits setpoint above transfer some = refl
-one-of false false true limits setpoint above transfer some = refl
-one-of false false false true setpoint above transfer some = refl
-one-of false false false false true above transfer some = refl
-one-of false false false false false above transfer some = absurd (some refl refl refl refl refl)
-
-module _ (ws : List ℕ) (k : ℕ) (r : Reading) (raw : ℕ) where
-  digit : (r .settings .baddigit || r .program .baddigit) ≡ true → numberOf (firstOf (judgedCases ws k r raw)) ≡ 7
-  digit e = rw e
-
-  setting : (r .settings .baddigit || r .program .baddigit) ≡ false → (Settled r → ⊥) → numberOf (firstOf (judgedCases ws k r raw)) ≡ 8
-  setting e some =
-      rw e (one-of _ _ _ _ _ (ltb (r .settings .mode2 .input .scale) raw) (r .transfer && badMajor (majorIn ws k (r .settings .pointer)) (pvIn r raw))
-      (λ m x t l s. some (record { digit = e; modes = m; ends = x; times = t; limits = l; setpoint = s })))
-
-  not-over : Settled r → raw ≤ r .settings .mode2 .input .scale → (r .transfer && badMajor (majorIn ws k (r .settings .pointer)) (pvIn r raw)) ≡ true → numberOf (firstOf (judgedCases ws k r raw)) ≡ 11
-  not-over p h e = rw (p .digit, p .modes, p .ends, p .times, p .limits, p .setpoint, le-ltb (r .settings .mode2 .input .scale) raw h, e)
-
-  too-high : Settled r → r .settings .mode2 .input .scale < raw → numberOf (firstOf (judgedCases ws k r raw)) ≡ 9
-  too-high p h = rw (p .digit, p .modes, p .ends, p .times, p .limits, p .setpoint, lt-ltb (r .settings .mode2 .input .scale) raw h)
-
 -- N11 by the limits that were read, and by the words where they stand
 module _ (d : Desk) (k raw : ℕ) where
   abbrev pub read : Major
@@ -161,27 +138,12 @@ module _ (d : Desk) (k raw : ℕ) where
       go false off = refl
 
   -- and one that has no such loop does not
-  no-major : transferAt d k ≡ true → (ToMajor d k raw → ⊥) → (transferAt d k && badMajor read (pvAt d k raw)) ≡ true
+  pub no-major : transferAt d k ≡ true → (ToMajor d k raw → ⊥) → (transferAt d k && badMajor read (pvAt d k raw)) ≡ true
   no-major on none = rw on (go (badMajor read (pvAt d k raw)) refl)
     where
       go : (b : Bool) → badMajor read (pvAt d k raw) ≡ b → badMajor read (pvAt d k raw) ≡ true
       go true e = e
       go false e = absurd (none (to-major (major-good read (pvAt d k raw) e)))
-
-module _ (d : Desk) (k raw : ℕ) (fit : fittingOf d ≡ true) where
-  no-loop : ((1 ≤ k) × (k ≤ 16) → ⊥) → numberOf (sampleAnswer d k raw) ≡ 4
-  unfolding sampleAnswer
-  no-loop wrong = rw (fit, no-such-loop k wrong)
-
-  sample-rows : Rows d k raw
-  sample-rows = record {
-    loop = no-loop;
-    carried = λ above below e. ap numberOf (answer-ranged d k raw fit above below) ∙ rw e;
-    reading = λ above below e.
-        let r = readingAt d k in
-        let a : sampleAnswer d k raw ≡ firstOf (judgedCases (d .words) k (readingAt d k) raw) = answer-ranged d k raw fit above below ∙ rw e in
-        rw a (digit (d .words) k r raw, setting (d .words) k r raw, too-high (d .words) k r raw, λ p h on none. not-over (d .words) k r raw p h (no-major d k raw on none));
-  }
 
 -- ---- forecasts
 
@@ -191,7 +153,7 @@ told-by : (a : Answer) (n samples : ℕ) → let t = toldBy (countedBy a n) samp
 told-by Accepted n samples = (refl, λ _. refl, λ h. absurd (omega arith))
 told-by (Refused why) n samples = (refl, λ e. absurd (omega (arith, in-table why)), λ _. refl)
 
-forecasts : (d : Desk) (k samples : ℕ) → let t = toldBy (forecastAt d k) samples in
+pub forecasts : (d : Desk) (k samples : ℕ) → let t = toldBy (forecastAt d k) samples in
     (t .number ≡ numberOf (sampleAnswer d k 0)) × (t .number ≡ 0 → t .samples ≡ remainingOf (d .words) k (recordAt (d .numbers) k))
     × (0 < t .number → t .samples ≡ samples)
 unfolding forecastAt
@@ -251,7 +213,6 @@ called = record {
   lengths = λ d. (fitting d, λ e. (sound d e .words, sound d e .numbers));
   answers = λ d call. (told d call, λ e. ap numberOf (unfit d e call));
   zero = accepted-only;
-  rows = sample-rows;
   stores = λ d address value fit low unkept. stored d address fit value low (free address unkept);
   unstored = λ d address fit. (beyond d address fit, kept d address fit);
   resets = cleared;

@@ -3,10 +3,10 @@ use Prim.Native.Nat.{ℕ, suc, zero, _+_, _*_, _≤_, _<_}
 use native.Mathlib.Omega.{arith}
 use native.Mathlib.Nat.{zero-add, add-zero, add-suc, suc-add}
 use mathlib.Core.Path.{_≡_, refl, sym, _∙_}
-use mathlib.Core.Logic.{_≢_, inl}
+use mathlib.Core.Logic.{_≢_}
 use mathlib.Core.Bool.{Bool, true, false, cond, or-true}
 use mathlib.Core.List.{List, [], _∷_, _++_, append-assoc, append-nil}
-use lib.Dec.{ltb}
+use lib.Dec.{ltb, lit≤}
 use lib.ListN.{length, getD, set, length-set, length-append}
 use lib.Seq.{sets, getD-set-same, getD-set-other}
 use borrow.Author.Tests.{ne-eqb, lt-ltb, le-ltb, ltb-false}
@@ -23,7 +23,8 @@ use Rattle.session.specs.Printed.{linesOf, bodyOf, tooLong, printedOf, roomFor,
 use Rattle.kexbardi_files.specs.Files.{filled, printLeft}
 use Rattle.claims.specs.Calls.{Answered}
 use Rattle.claims.specs.Demand1.{Whole, Demand1}
-use Rattle.claims.proofs.Calls.{told, called}
+use Rattle.claims.proofs.Calls.{small, told, called}
+use Rattle.claims.proofs.Causes.{answer-at, ordered}
 use Rattle.claims.proofs.Names.{names}
 
 -- ---- the answers of a file
@@ -37,20 +38,13 @@ answers-told file = by-records file Told end more
     Told at = (d : Desk) (i : ℕ) → Answered (getD (answersFor d (recordsFrom file at)) i 0)
 
     end : (at : ℕ) → length file ≤ at → Told at
-    end at h d i = rw (records-end file at h) (inl (omega arith))
+    end at h d i = rw (records-end file at h) (small (lit≤ tt))
 
     more : (at : ℕ) → at < length file → Told (recordAt file at .next) → Told at
     more at h rest d zero =
         rw (records-step file at h)
-        (every-record (λ x. Answered (numberFor d x)) (λ address value. told d (store address value)) (λ k raw. told d (sample k raw)) (inl (omega arith)) (inl (omega arith)) (inl (omega arith)) file at)
+        (every-record (λ x. Answered (numberFor d x)) (λ address value. told d (store address value)) (λ k raw. told d (sample k raw)) (small (lit≤ tt)) (small (lit≤ tt)) (small (lit≤ tt)) file at)
     more at h rest d (suc i) = rw (records-step file at h) (rest (leftFor d (recordAt file at .item)) i)
-
--- the answer to a record is that of the desk as the records before left it
-answer-at : (t : State) (before : List Record) (x : Record) (after : List Record)
-    → getD (answersFor (t .desk) (before ++ (x ∷ after))) (length before) 0 ≡ numberFor (runOf t before .desk) x
-unfolding answersFor runOf
-answer-at t [] x after = refl
-answer-at t (y ∷ before) x after′ = answer-at (after t y) before x after′
 
 -- the desk behind one more record
 run-last : (t : State) (before : List Record) (x : Record) → runOf t (before ++ (x ∷ [])) .desk ≡ leftFor (runOf t before .desk) x
@@ -64,7 +58,7 @@ numbers-told file d i = go (fittingOf d)
   where
     go : (b : Bool) → Answered (getD (cond b (answersFor d (recordsOf file)) []) i 0)
     go true = answers-told file 0 d i
-    go false = inl (omega arith)
+    go false = small (lit≤ tt)
 
 -- ---- the answers' buffer: values stored from a place on, as far as there is room
 
@@ -203,5 +197,6 @@ demand-1 = record {
   no-room = not-printed;
   program = printed-whole;
   calls = called;
+  order = ordered;
   names = names;
 }

@@ -1,10 +1,10 @@
 -- What is promised of an output with a format of its own, proved.
 use Prim.Native.Nat.{ℕ, zero, suc, _+_, _*_, _≤_, _<_}
 use native.Mathlib.Omega.{arith}
-use mathlib.Core.Path.{_≡_, refl, sym, ap, subst, _∙_}
+use mathlib.Core.Path.{_≡_, refl, sym, ap, _∙_}
 use mathlib.Core.Bool.{Bool, true, false, cond, not, _&&_, _||_}
-use mathlib.Core.List.{List, [], _∷_}
-use lib.Dec.{T, ltb, eqb, lit<}
+use mathlib.Core.List.{List}
+use lib.Dec.{ltb, eqb, lit<}
 use lib.IntN.{ℤ, pos, natAbs, _-ℤ_}
 use lib.Signed.{_≤ℤ_}
 use lib.ListN.{getD}
@@ -23,11 +23,11 @@ use Rattle.refusals.specs.Refusals.Laws.{accepted-only}
 use Rattle.table.specs.declared.settings.Mode2.{Mode2}
 use Rattle.table.specs.declared.reading.Reading.{Reading}
 use Rattle.table.specs.Words.{bit, formatBy, baseOf, blockAt}
-use Rattle.table.specs.Words.Laws.{block-at, none-at, or-false}
+use Rattle.table.specs.Words.Laws.{block-at, or-false}
 use Rattle.table.specs.Settings.{unusedBits, mode2Of, settingsOf}
 use Rattle.table.specs.Modes.{isManual, isAutomatic, isCascade}
 use Rattle.table.specs.Programs.{highEndIn}
-use Rattle.table.specs.Programs.Laws.{program-ends}
+use Rattle.table.specs.Programs.Laws.{program-tested}
 use Rattle.profile.specs.Flags.{flagsOf}
 use Rattle.profile.specs.Moves.{advancedBy}
 use Rattle.profile.specs.Samples.{sampledBy}
@@ -49,7 +49,6 @@ use Rattle.alarms.specs.Status.{wordOf as statusBits}
 use Rattle.alarms.specs.Status.Laws.{status-bit}
 use Rattle.carried.specs.declared.record.State.{State}
 use Rattle.carried.specs.Layout.{recordAt}
-use Rattle.judging.specs.Judging.Laws.{limits-good}
 use Rattle.engine.specs.declared.sensing.Sensed.{Sensed}
 use Rattle.engine.specs.Sensing.{setpointOf, changed, runsOn, targetOf, profiledOf, errorIn, sensedOf}
 use Rattle.engine.specs.Driving.{heldOf, startOf, keptIn, pastOf, positionInputs, velocityInputs, inputsOf, termsIn, lowUnits, highUnits, movedIn, movedOf, drivenOf}
@@ -62,9 +61,7 @@ use Rattle.plain.specs.Plain.{Plain, movedBy, plainAfter}
 use Rattle.plain.specs.Plain.Laws.{start-tied, sample-good}
 use Rattle.desk.specs.Desk.{Desk, readingAt, stepAt, sampleAnswer, sampleLeft}
 use Rattle.desk.specs.Desk.Laws.{sampled}
-use Rattle.claims.specs.Calls.{Settled}
-use Rattle.claims.specs.Formats.{Conversion, wordOf, inputFull, outputFull, fullBy, sensedAt, Readable, Refused, Counted, Errors, formed, formedAt, Compared, StatusLeft, ExactBy, Formats}
-use Rattle.claims.proofs.Calls.{called}
+use Rattle.claims.specs.Formats.{Conversion, wordOf, inputFull, outputFull, fullBy, sensedAt, Counted, Errors, formed, formedAt, Compared, StatusLeft, ExactBy, Formats}
 use Rattle.claims.proofs.Demand2.{demand-2}
 
 conversion : (F G : ℕ) → 0 < F → 0 < G → Conversion F G
@@ -166,40 +163,12 @@ module _ (d : Desk) (k : ℕ) where
 
   ends : readingAt d k .program .on ≡ true → readingAt d k .program .highend ≡ highEndIn (inputFull d k) (blockAt (d .words) (tableOf (d .words) k))
   unfolding readingOf
-  ends on = program-ends (d .words) (tableOf (d .words) k) _ _ _ on
+  ends on = program-tested (d .words) (tableOf (d .words) k) _ _ _ .1 ∙ rw on
 
   -- with bit 10 on every count is converted
   counts : bit 10 (wordOf d k 1) ≡ true → (v : ℕ) → outputCounts (readingAt d k .settings .mode2) v ≡ converted (inputFull d k) (outputFull d k) v
   unfolding outputCounts
   counts on v = rw (separate, on)
-
--- ---- what is refused
-
-module _ (d : Desk) (k raw : ℕ) (r : Readable d k) where
-  eight : (Settled (readingAt d k) → ⊥) → numberOf (sampleAnswer d k raw) ≡ 8
-  eight wrong = called .rows d k raw (r .memory) .reading (r .loop .0) (r .loop .1) (r .carried) .1 (r .digits) wrong
-
-  -- what is settled has no bit on that has to be off
-  abbrev tests : List Bool
-  tests =
-      let w = wordOf d k 1 in
-      bit 0 w ∷ bit 2 w ∷ bit 3 w ∷ bit 5 w ∷ bit 6 w ∷ bit 7 w ∷ bit 11 w ∷ bit 14 w ∷ bit 15 w ∷ (not (bit 10 w) && (bit 12 w || bit 13 w)) ∷ []
-
-  off : Settled (readingAt d k) → (i : ℕ) → getD tests i false ≡ false
-  off s i =
-      let b = readingAt d k .settings .mode1 in
-      let h = readingAt d k .settings .alarms .hysteresis in
-      let three = or-false (((b .velocity && b .bumpless) || b .limited) || readingAt d k .settings .mode2 .unused) ((b .level || b .deviation) && (ltb h 1 || ltb 200 h)) (s .modes) .0 in
-      let two = or-false ((b .velocity && b .bumpless) || b .limited) (readingAt d k .settings .mode2 .unused) three .1 in
-      none-at tests (sym (unused d k) ∙ two) i
-
-  refused : Refused d k raw
-  refused = record {
-    eleven = λ on. eight (λ s. subst T (sym on ∙ off s 6) tt);
-    stray = λ none some. eight (λ s. let both : (not (bit 10 (wordOf d k 1)) && (bit 12 (wordOf d k 1) || bit 13 (wordOf d k 1))) ≡ true = rw (none, some) in
-        subst T (sym both ∙ off s 9) tt);
-    limits = λ h. eight (λ s. let l = limits-good (readingAt d k .settings .limits) (outputFull d k) (s .limits) .1 in omega (arith, high d k));
-  }
 
 -- ---- in which counts an accepted sample's numbers are
 
@@ -393,7 +362,6 @@ formats = record {
   one = one;
   bits = unused;
   minutes = minutes;
-  refused = refused;
   ends = ends;
   counted = counted;
   errors = errors;

@@ -9,6 +9,7 @@ pub mod Demand1
 pub mod Demand2
 pub mod Demand3
 pub mod Transfers
+pub mod Causes
 pub mod OneFormat
 pub mod Formats
 pub mod Examples

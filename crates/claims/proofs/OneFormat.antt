@@ -2,7 +2,7 @@
 use Prim.Native.Nat.{ℕ, _+_}
 use mathlib.Core.Path.{_≡_, refl, sym, ap, _∙_}
 use mathlib.Core.Bool.{Bool, true, false, not, _||_, or-true}
-use mathlib.Core.List.{List, [], _∷_, _++_}
+use mathlib.Core.List.{List, [], _∷_}
 use lib.Dec.{lit<}
 use lib.IntN.{ℤ}
 use lib.ListN.{getD}
@@ -13,11 +13,9 @@ use Rattle.table.specs.declared.reading.Reading.{Reading}
 use Rattle.table.specs.Words.{bit, any, baseOf}
 use Rattle.table.specs.Words.Laws.{block-at}
 use Rattle.table.specs.Settings.{mode2Of, settingsOf}
-use Rattle.refusals.specs.Refusals.{firstOf}
+use Rattle.refusals.specs.Refusals.{numberOf}
 use Rattle.table.specs.Modes.{isManual}
 use Rattle.table.specs.declared.mode.Mode.{Mode}
-use Rattle.table.specs.Transfers.{majorIn}
-use Rattle.judging.specs.Judging.{transferCases}
 use Rattle.table.specs.Reading.{readingOf}
 use Rattle.control.specs.Counts.Laws.{counts-same}
 use Rattle.control.specs.Errors.{inDeadband, errorOf}
@@ -28,14 +26,16 @@ use Rattle.carried.specs.Layout.{recordAt}
 use Rattle.engine.specs.declared.sensing.Sensed.{Sensed}
 use Rattle.engine.specs.declared.writing.Written.{Written}
 use Rattle.control.specs.declared.forms.Drive.{Drive}
-use Rattle.engine.specs.Sensing.{pvIn, errorIn, sensedOf}
+use Rattle.engine.specs.Sensing.{errorIn, sensedOf}
 use Rattle.engine.specs.Driving.{heldOf, startOf, pastOf, movedOf, drivenOf}
 use Rattle.engine.specs.Driving.Laws.{kept-same}
 use Rattle.engine.specs.Writing.{writtenOf, nextOf}
 use Rattle.engine.specs.Steps.{stepOf}
 use Rattle.plain.specs.Plain.{Plain, plainAfter}
-use Rattle.desk.specs.Desk.{Desk, memoryCases, loopCases, readingAt, sampleAnswer}
-use Rattle.claims.specs.OneFormat.{mode2Then, errorThen, sensedThen, pastThen, drivenThen, writtenThen, stepThen, casesThen, plainThen, OneFormat}
+use Rattle.desk.specs.Desk.{Desk, readingAt, sampleAnswer}
+use Rattle.claims.specs.Causes.{sampleThen, numberThen}
+use Rattle.claims.proofs.Causes.{renumbered}
+use Rattle.claims.specs.OneFormat.{mode2Then, errorThen, sensedThen, pastThen, drivenThen, writtenThen, stepThen, plainThen, OneFormat}
 
 -- ---- what is read
 
@@ -133,13 +133,9 @@ step-then r t c raw =
 
 -- ---- the answer
 
-answer-then : (d : Desk) (k raw : ℕ) → let r = readingAt d k in
-    Then (r .settings .mode2)
-    → sampleAnswer d k raw
-    ≡ firstOf (memoryCases d ++ (loopCases (d .numbers) k
-    ++ (casesThen r raw ++ transferCases (r .transfer) (majorIn (d .words) k (r .settings .pointer)) (pvIn r raw))))
-unfolding sampleAnswer
-answer-then d k raw t = rw (t .scale)
+answer-then : (d : Desk) (k raw : ℕ) → let mode2 = readingAt d k .settings .mode2 in
+    Then mode2 → numberThen (numberOf (sampleAnswer d k raw)) ≡ sampleThen d k (mode2 .input .scale) raw
+answer-then d k raw t = renumbered d k raw ∙ ap (λ (G : ℕ). sampleThen d k G raw) (t .scale)
 
 -- ---- the plain loop
 

@@ -2,7 +2,6 @@
 use Prim.Native.Nat.{ℕ, _+_, _%_, _≤_, _<_}
 use mathlib.Core.Path.{_≡_}
 use mathlib.Core.Bool.{Bool, true, false, _||_}
-use mathlib.Core.Logic.{_⊎_}
 use mathlib.Core.List.{List}
 use lib.IntN.{ℤ, pos}
 use lib.ListN.{length, getD, set, replicate}
@@ -24,9 +23,9 @@ use Rattle.kexbardi_profiles.specs.Told.{toldBy}
 use Rattle.setups.specs.Setup.{setupOf}
 use Rattle.kexbardi_files.specs.Files.{filled, setupFilled}
 
--- N1 to N9, N11: the numbers that a reset, a store, a sample and a record of a file are answered with, 0 where it is accepted
+-- N1 to N14 but N10: the numbers that a reset, a store, a sample and a record of a file are answered with, 0 where it is accepted
 abbrev pub Answered : ℕ → Type 0
-Answered n = (n ≤ 9) ⊎ (n ≡ 11)
+Answered n = (n ≤ 14) × (n ≡ 10 → ⊥)
 
 -- N6: the words of a loop that no store reaches
 pub data Reserved : ℕ → Type 0 where
@@ -35,7 +34,7 @@ pub data Reserved : ℕ → Type 0 where
   status : Reserved 6
   profile : Reserved 29
 
--- what a sample reads passes N7 and each group of N8
+-- what a sample reads passes N7, N8, N12, N13 and N14
 pub record Settled (r : Reading) : Type 0 where
   pub digit : (r .settings .baddigit || r .program .baddigit) ≡ false
   pub modes : badModes (r .settings .mode1) (r .settings .mode2 .unused) (r .settings .alarms .hysteresis) ≡ false
@@ -60,25 +59,14 @@ pub record ToMajor (d : Desk) (k raw : ℕ) : Type 0 where
   pub low : getD (d .words) (baseOf (majorAt d k) + 24) 0 ≤ pvAt d k raw
   pub high : pvAt d k raw ≤ getD (d .words) (baseOf (majorAt d k) + 25) 0
 
--- O3, O4: the numbers of a sample's refusals on memory of the right lengths, each where none before it holds
-pub record Rows (d : Desk) (k raw : ℕ) : Type 0 where
-  pub loop : ((1 ≤ k) × (k ≤ 16) → ⊥) → numberOf (sampleAnswer d k raw) ≡ 4
-  pub carried : 1 ≤ k → k ≤ 16 → outOfRange (numbersAt (d .numbers) (slotOf k)) ≡ true → numberOf (sampleAnswer d k raw) ≡ 5
-  pub reading : 1 ≤ k → k ≤ 16 → outOfRange (numbersAt (d .numbers) (slotOf k)) ≡ false → let r = readingAt d k in
-      ((r .settings .baddigit || r .program .baddigit) ≡ true → numberOf (sampleAnswer d k raw) ≡ 7)
-      × ((r .settings .baddigit || r .program .baddigit) ≡ false → (Settled r → ⊥) → numberOf (sampleAnswer d k raw) ≡ 8)
-      × (Settled r → r .settings .mode2 .input .scale < raw → numberOf (sampleAnswer d k raw) ≡ 9)
-      × (Settled r → raw ≤ r .settings .mode2 .input .scale → transferAt d k ≡ true → (ToMajor d k raw → ⊥) → numberOf (sampleAnswer d k raw) ≡ 11)
-
 pub record Called : Type 0 where
   -- N5: the lengths are 1,024 words and the records' numbers
   pub lengths : (d : Desk) → (length (d .words) ≡ 1024 → length (d .numbers) ≡ numberCount → fittingOf d ≡ true)
       × (fittingOf d ≡ true → (length (d .words) ≡ 1024) × (length (d .numbers) ≡ numberCount))
-  -- every answer to a reset, a store or a sample is 0, which is an acceptance, or a number of N1 to N9 or N11; 5 on memory of wrong lengths; a sample's
-  -- that of the first rule that holds
+  -- every answer to a reset, a store or a sample is 0, which is an acceptance, or a number of N1 to N14 but N10; 5 on memory of wrong lengths. Which one
+  -- a sample is answered with is said in `Causes`
   pub answers : (d : Desk) (call : Call) → Answered (numberOf (answerTo d call)) × (fittingOf d ≡ false → numberOf (answerTo d call) ≡ 5)
   pub zero : (a : Answer) → numberOf a ≡ 0 → a ≡ Accepted
-  pub rows : (d : Desk) (k raw : ℕ) → fittingOf d ≡ true → Rows d k raw
   -- Q2: a store of an address that may be stored is carried out, and changes that word; any other is refused with 6 (N6)
   pub stores : (d : Desk) (address value : ℕ) → fittingOf d ≡ true → address ≤ 1023 → (address < 512 → Reserved (address % 32) → ⊥)
       → (numberOf (storeAnswer d address) ≡ 0) × (storeLeft d address value ≡ lent (set (d .words) address value) (d .numbers))

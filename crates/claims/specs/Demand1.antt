@@ -1,6 +1,6 @@
 -- Demand 1. A drill file is any list of bytes. All of it is read: a record that the file cuts off is the last one, and behind every other record the
--- next one is read, whether that record was carried out or refused. A refusal has a number of N1 to N11, a setup's alone N10, and changes no word and no
--- number, in a file and in a direct call; a refused direct call leaves everything that was lent to it.
+-- next one is read, whether that record was carried out or refused. A refusal has a number of N1 to N14, a setup's alone N10, that of the first
+-- cause that holds (`Causes`), and changes no word and no number, in a file and in a direct call; a refused direct call leaves everything that was lent to it.
 use Prim.Native.Nat.{ℕ, suc, _+_, _≤_, _<_}
 use mathlib.Core.Path.{_≡_}
 use mathlib.Core.Bool.{true, false}
@@ -18,6 +18,7 @@ use Rattle.session.specs.Session.{numberFor, leftFor, shownFor, begun, runOf, r
 use Rattle.session.specs.Printed.{bodyOf, printedOf, roomFor, printedWithin}
 use Rattle.kexbardi_files.specs.Files.{ended, endedBy, answersLeft, filled, printLeft}
 use Rattle.claims.specs.Calls.{Answered, Called}
+use Rattle.claims.specs.Causes.{Ordered}
 use Rattle.claims.specs.Names.{Names}
 
 -- L2 to L7: what a record is whose n bytes stand whole behind its length, with the kind at `at`
@@ -53,7 +54,7 @@ pub record Demand1 : Type 0 where
   pub counted : (file : List ℕ) (d : Desk) (count refused : ℕ) → fittingOf d ≡ true → let e = endedBy (endedOf file d) count refused in
       (e .number ≡ 0) × (e .count ≡ length (recordsOf file)) × (length (answersOf file d) ≡ e .count) × (e .refused ≡ refusalsIn (answersOf file d))
   pub refusals : (refusalsIn [] ≡ 0) × ((l : List ℕ) → refusalsIn (0 ∷ l) ≡ refusalsIn l) × ((a : ℕ) (l : List ℕ) → refusalsIn (suc a ∷ l) ≡ suc (refusalsIn l))
-  -- every answer is 0 or a number of N1 to N9 or N11
+  -- every answer is 0 or a number of N1 to N14 but N10
   pub numbers : (file : List ℕ) (d : Desk) (i : ℕ) → Answered (getD (answersOf file d) i 0)
   -- O2, O5: each record is answered by the desk as those before left it, and carried out on it; where its answer is not 0, words and numbers stay
   pub each : (file : List ℕ) (d : Desk) → fittingOf d ≡ true → (before : List Record) (x : Record) (after : List Record)
@@ -87,6 +88,7 @@ pub record Demand1 : Type 0 where
   pub no-room : (file out : List ℕ) (size : ℕ) → length out < roomFor file → printLeft file out size ≡ filled 5 out size
   -- the program's buffer has 655,460 bytes (`session::output_buffer`): always enough
   pub program : (file : List ℕ) → printedWithin 655460 file ≡ printedOf file
-  -- ---- direct calls, and what the names stand for
+  -- ---- direct calls, in which order a sample's refusals are tested, and what the names stand for
   pub calls : Called
+  pub order : Ordered
   pub names : Names

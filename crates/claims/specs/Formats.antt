@@ -29,7 +29,7 @@ use Rattle.control.specs.Terms.{exactTerms, termsOf}
 use Rattle.control.specs.Forms.{positionOf, velocityOf}
 use Rattle.carried.specs.declared.record.Past.{Past}
 use Rattle.carried.specs.declared.record.Carried.{Carried}
-use Rattle.carried.specs.Layout.{slotOf, outOfRange, numbersAt, recordAt}
+use Rattle.carried.specs.Layout.{recordAt}
 use Rattle.carried.specs.Ranged.{Ranged}
 use Rattle.engine.specs.declared.sensing.Sensed.{Sensed}
 use Rattle.engine.specs.Sensing.{changed, sensedOf}
@@ -39,7 +39,7 @@ use Rattle.engine.specs.Premises.{Usable}
 use Rattle.plain.specs.Exact.{exactOutput, exactBias}
 use Rattle.plain.specs.Plain.{Plain, begun, plainAfter}
 use Rattle.plain.specs.Plain.Laws.{Tied, Good}
-use Rattle.desk.specs.Desk.{Desk, fittingOf, readingAt, stepAt, sampleAnswer, sampleLeft}
+use Rattle.desk.specs.Desk.{Desk, readingAt, stepAt, sampleAnswer, sampleLeft}
 
 -- M7: a count v of full scale F converted to full scale G, F and G any two above 0
 pub record Conversion (F G : ℕ) : Type 0 where
@@ -69,19 +69,6 @@ fullBy sixteen fifteen = cond sixteen 65535 (cond fifteen 32767 4095)
 -- what a sample of loop k senses
 abbrev pub sensedAt : Desk → ℕ → ℕ → Sensed
 sensedAt d k raw = sensedOf (readingAt d k) (recordAt (d .numbers) k .state) raw
-
--- O3: none of N4, N5 and N7 holds
-pub record Readable (d : Desk) (k : ℕ) : Type 0 where
-  pub memory : fittingOf d ≡ true
-  pub loop : (1 ≤ k) × (k ≤ 16)
-  pub carried : outOfRange (numbersAt (d .numbers) (slotOf k)) ≡ false
-  pub digits : (readingAt d k .settings .baddigit || readingAt d k .program .baddigit) ≡ false
-
--- N8: bit 11; bits 12 and 13 without bit 10; a high output limit above G
-pub record Refused (d : Desk) (k raw : ℕ) : Type 0 where
-  pub eleven : bit 11 (wordOf d k 1) ≡ true → numberOf (sampleAnswer d k raw) ≡ 8
-  pub stray : bit 10 (wordOf d k 1) ≡ false → (bit 12 (wordOf d k 1) || bit 13 (wordOf d k 1)) ≡ true → numberOf (sampleAnswer d k raw) ≡ 8
-  pub limits : outputFull d k < wordOf d k 25 → numberOf (sampleAnswer d k raw) ≡ 8
 
 -- M3, M7: after an accepted sample setpoint and PV are at most F, output and error at most G, and so is, outside Manual, the bias word in position form
 pub record Counted (d : Desk) (k raw : ℕ) : Type 0 where
@@ -173,7 +160,6 @@ pub record Formats : Type 0 where
       readingAt d k .settings .mode2 .unused
       ≡ any (bit 0 w ∷ bit 2 w ∷ bit 3 w ∷ bit 5 w ∷ bit 6 w ∷ bit 7 w ∷ bit 11 w ∷ bit 14 w ∷ bit 15 w ∷ (not (bit 10 w) && (bit 12 w || bit 13 w)) ∷ [])
   pub minutes : (d : Desk) (k : ℕ) → readingAt d k .settings .mode2 .minutes ≡ bit 4 (wordOf d k 1)
-  pub refused : (d : Desk) (k raw : ℕ) → Readable d k → Refused d k raw
   -- N8: ramp ends are tested against F
   pub ends : (d : Desk) (k : ℕ) → readingAt d k .program .on ≡ true
       → readingAt d k .program .highend ≡ highEndIn (inputFull d k) (blockAt (d .words) (tableOf (d .words) k))

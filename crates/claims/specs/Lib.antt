@@ -12,3 +12,4 @@ pub mod Demand3
 pub mod Transfers
 pub mod OneFormat
 pub mod Formats
+pub mod Causes

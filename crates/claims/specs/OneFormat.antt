@@ -4,7 +4,7 @@
 use Prim.Native.Nat.{ℕ, _+_}
 use mathlib.Core.Path.{_≡_}
 use mathlib.Core.Bool.{Bool, false, cond, not, _&&_, _||_}
-use mathlib.Core.List.{List, [], _∷_, _++_}
+use mathlib.Core.List.{List, [], _∷_}
 use lib.Dec.{ltb}
 use lib.IntN.{ℤ, pos, natAbs, _-ℤ_}
 use lib.ListN.{getD}
@@ -12,14 +12,11 @@ use Rattle.numbers.specs.Fractions.{whole}
 use Rattle.table.specs.declared.settings.Mode2.{Mode2}
 use Rattle.table.specs.declared.settings.Settings.{Settings}
 use Rattle.table.specs.declared.reading.Reading.{Reading}
-use Rattle.refusals.specs.declared.Refusal.the-variants.{Digit, Setting, Above}
-use Rattle.refusals.specs.Refusals.{Case, _⇒_, firstOf}
+use Rattle.refusals.specs.Refusals.{numberOf}
 use Rattle.table.specs.Words.{bit, inputFormat, any, baseOf, clearRequests}
-use Rattle.table.specs.Modes.{isManual, isCascade}
+use Rattle.table.specs.Modes.{isManual}
 use Rattle.table.specs.declared.mode.Mode.{Mode}
-use Rattle.table.specs.Transfers.{majorIn}
 use Rattle.table.specs.Reading.{readingOf}
-use Rattle.judging.specs.Judging.{badModes, badTimes, badLimits, badSetpoint, transferCases}
 use Rattle.control.specs.declared.forms.Drive.{Drive}
 use Rattle.control.specs.Errors.{squaredOver}
 use Rattle.carried.specs.declared.record.State.{State}
@@ -29,11 +26,12 @@ use Rattle.carried.specs.Layout.{recordAt}
 use Rattle.engine.specs.declared.sensing.Sensed.{Sensed}
 use Rattle.engine.specs.declared.stepping.Stepped.{Stepped}
 use Rattle.engine.specs.declared.writing.Written.{Written}
-use Rattle.engine.specs.Sensing.{pvIn, sensedOf}
+use Rattle.engine.specs.Sensing.{sensedOf}
 use Rattle.engine.specs.Driving.{heldOf, startOf, movedOf}
 use Rattle.engine.specs.Writing.{outputWord, biasWord, statusWord, nextOf}
 use Rattle.plain.specs.Plain.{Plain, countAfter, movedBy, plainAfter}
-use Rattle.desk.specs.Desk.{Desk, memoryCases, loopCases, readingAt, stepAt, sampleAnswer}
+use Rattle.desk.specs.Desk.{Desk, readingAt, stepAt, sampleAnswer}
+use Rattle.claims.specs.Causes.{sampleThen, numberThen}
 
 -- M2: mode 2: bits 9 and 1 gave the format of input and output, and every bit but 1, 4, 8 and 9 had to be off
 abbrev pub mode2Then : ℕ → Mode2
@@ -121,29 +119,13 @@ plainThen q r raw =
     let n = countAfter (isManual (r .mode) || s .mode1 .freeze || s .mode1 .velocity) (x .entry) (q .n) in
     movedBy n q r x (cond (x .entry) (whole (pos (heldOf s))) (q .B)) (cond (x .entry) (x .pv) (q .last))
 
--- O3: N7, N8 and N9; the output limits were tested against F as well
-abbrev pub casesThen : Reading → ℕ → List Case
-casesThen r raw =
-    let s = r .settings in
-    let F = s .mode2 .input .scale in
-    ((s .baddigit || r .program .baddigit) ⇒ Digit)
-    ∷ (badModes (s .mode1) (s .mode2 .unused) (s .alarms .hysteresis) ⇒ Setting)
-    ∷ (r .program .highend ⇒ Setting)
-    ∷ (badTimes (s .tuning) ⇒ Setting)
-    ∷ (badLimits (s .limits) F ⇒ Setting)
-    ∷ (badSetpoint (isCascade (r .mode)) F (s .stored .setpoint) (s .pointer) (r .remote) ⇒ Setting)
-    ∷ (ltb F raw ⇒ Above)
-    ∷ []
-
 pub record OneFormat : Type 0 where
   -- word 1 of a loop with bit 10 off is read as it was, whatever mode and segment are carried, by the plain loop too
   pub mode2 : (ws : List ℕ) (k : ℕ) (former : Mode) (segment : ℕ) → let word = getD ws (baseOf k + 1) 0 in
       bit 10 word ≡ false → readingOf ws k former segment .settings .mode2 ≡ mode2Then word
-  -- a sample of it is answered as it was, N5, N4 and N5 before and N11 behind
-  pub answer : (d : Desk) (k raw : ℕ) → bit 10 (getD (d .words) (baseOf k + 1) 0) ≡ false → let r = readingAt d k in
-      sampleAnswer d k raw
-      ≡ firstOf (memoryCases d ++ (loopCases (d .numbers) k
-      ++ (casesThen r raw ++ transferCases (r .transfer) (majorIn (d .words) k (r .settings .pointer)) (pvIn r raw))))
+  -- a sample of it is answered as it was, the output limits tested against F, but that 8 has since become 12, 13 or 14 for three groups of settings
+  pub answer : (d : Desk) (k raw : ℕ) → bit 10 (getD (d .words) (baseOf k + 1) 0) ≡ false
+      → numberThen (numberOf (sampleAnswer d k raw)) ≡ sampleThen d k (readingAt d k .settings .mode2 .input .scale) raw
   -- and what it comes to, all words and numbers, is what it was
   pub step : (d : Desk) (k raw : ℕ) → bit 10 (getD (d .words) (baseOf k + 1) 0) ≡ false
       → stepAt d k raw ≡ stepThen (readingAt d k) (recordAt (d .numbers) k) raw

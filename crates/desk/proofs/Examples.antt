@@ -101,7 +101,7 @@ mixed =
     ∷ writing (λ ws. set ws 261 9) (sample 9 1000) 0 2000 2
     ∷ step (store 258 1500) 0 2000 2
     ∷ writing (λ ws. set ws 264 0x0300) (sample 9 1000) 0 3650 3
-    ∷ step (sample 1 1000) 8 3650 3
+    ∷ step (sample 1 1000) 12 3650 3
     ∷ step (store 259 5) 6 3650 3
     ∷ step reset 0 0 0
     ∷ writing (set-up 256) (sample 9 1000) 0 2000 1
@@ -149,8 +149,8 @@ transfers =
     ∷ both (λ ws. set (set ws 25 4095) 282 261) (sample 9 1200) 11 2088 6 1200 1 false
     ∷ both (λ ws. set ws 282 517) (sample 9 1200) 11 2088 6 1200 1 false
     ∷ both (λ ws. set ws 282 6) (sample 9 1200) 11 2088 6 1200 1 false
-    -- N8 and N9 before N11
-    ∷ both (λ ws. set (set ws 282 261) 261 4096) (sample 9 1200) 8 4096 6 1200 1 false
+    -- N14 and N9 before N11
+    ∷ both (λ ws. set (set ws 282 261) 261 4096) (sample 9 1200) 14 4096 6 1200 1 false
     ∷ both (λ ws. set ws 261 2088) (sample 9 4096) 9 2088 6 1200 1 false
     -- Bumpless II forces nothing: s = 1,300, e = 100, 2,088 + 20 + 200
     ∷ both (λ ws. set (set (set ws 256 12) 282 5) 5 1300) (sample 9 1200) 0 2308 7 1300 1 false

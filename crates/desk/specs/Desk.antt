@@ -110,11 +110,11 @@ readingBy ws k c = readingOf ws k (c .state .mode) (c .state .profile .segment)
 abbrev pub readingAt : Desk → ℕ → Reading
 readingAt d k = readingBy (d .words) k (recordAt (d .numbers) k)
 
--- O3: N7, N8 and N9 of a sample of loop k, and N11 with p of A1
+-- O3: of a sample of loop k, N7, N8, N12, N13, N14 and N9, and N11 with p of A1
 abbrev pub judgedCases : List ℕ → ℕ → Reading → ℕ → List Case
 judgedCases ws k r raw = readingCases r raw ++ transferCases (r .transfer) (majorIn ws k (r .settings .pointer)) (pvIn r raw)
 
--- O3: N5, N4, N5, N7, N8, N9 and N11, one list in this order
+-- O3: N5, N4, N5, and these seven, one list in this order
 abbrev pub sampleCases : Desk → ℕ → ℕ → List Case
 sampleCases d k raw = memoryCases d ++ (loopCases (d .numbers) k ++ judgedCases (d .words) k (readingAt d k) raw)
 

@@ -1,4 +1,4 @@
--- Refusals N7, N8, N9 and N11 computed of the definitions: each number of a setting on both sides of its edge, several conditions at once, the
+-- Refusals N7 to N9 and N11 to N14 computed of the definitions: each number of a setting on both sides of its edge, several conditions at once, the
 -- examples of the first three rules, the words of a ramp/soak table, and the pointers, limits and modes of a transfer.
 use Prim.Native.Nat.{ℕ, _+_}
 use mathlib.Core.Path.{_≡_, refl}
@@ -37,13 +37,13 @@ cases =
     ∷ case (word 8 0x000A) 0 7
     ∷ case (λ ws. word 8 0x000A (word 7 4 ws)) 0 7
     ∷ case (word 8 0x0009) 0 0
-    ∷ case (word 9 0) 4096 8
+    ∷ case (word 9 0) 4096 12
     ∷ case (word 9 1) 0 0
-    ∷ case (word 7 0x0004) 0 8
+    ∷ case (word 7 0x0004) 0 12
     ∷ case (word 7 0x0005) 0 0
     ∷ case (word 24 4095) 0 0
-    ∷ case (λ ws. word 24 1001 (word 25 1000 ws)) 0 8
-    ∷ case (word 25 4096) 0 8
+    ∷ case (λ ws. word 24 1001 (word 25 1000 ws)) 0 13
+    ∷ case (word 25 4096) 0 13
     ∷ case (word 0 40) 0 8
     ∷ case (word 0 512) 0 8
     ∷ case (word 0 2048) 0 0
@@ -64,10 +64,10 @@ cases =
     ∷ case (word 1 0x2C00) 0 8
     ∷ case (word 1 0x1000) 0 8
     ∷ case (word 1 0x2000) 0 8
-    ∷ case (λ ws. word 1 0x0600 (word 25 4096 ws)) 0 8
+    ∷ case (λ ws. word 1 0x0600 (word 25 4096 ws)) 0 13
     ∷ case (λ ws. word 1 0x1600 (word 25 32767 ws)) 65535 0
     ∷ case (λ ws. word 1 0x2400 (word 25 65535 ws)) 4095 0
-    ∷ case (λ ws. word 1 0x2400 (word 2 4096 ws)) 0 8
+    ∷ case (λ ws. word 1 0x2400 (word 2 4096 ws)) 0 14
     ∷ case (word 1 0x2400) 4096 9
     ∷ case (word 0 8192) 0 8
     ∷ case (λ ws. word 0 4096 (word 18 1 ws)) 0 0
@@ -75,21 +75,28 @@ cases =
     ∷ case (λ ws. word 0 4096 (word 18 201 ws)) 0 8
     ∷ case (word 0 16384) 0 0
     ∷ case (word 2 4095) 0 0
-    ∷ case (word 2 4096) 0 8
+    ∷ case (word 2 4096) 0 14
     ∷ case (λ ws. word 0 4 (word 2 4096 (word 26 40 ws))) 0 0
     ∷ case (λ ws. word 0 4 (word 26 40 (word 40 4095 ws))) 0 0
-    ∷ case (λ ws. word 0 4 (word 26 40 (word 40 4096 ws))) 0 8
+    ∷ case (λ ws. word 0 4 (word 26 40 (word 40 4096 ws))) 0 14
     ∷ case (λ ws. word 0 4 (word 26 1023 ws)) 0 0
-    ∷ case (λ ws. word 0 4 (word 26 1024 ws)) 0 8
-    ∷ case (λ _. replicate 1024 0) 0 8
+    ∷ case (λ ws. word 0 4 (word 26 1024 ws)) 0 14
+    ∷ case (λ _. replicate 1024 0) 0 12
     ∷ case (λ _. word 8 0x000A (replicate 1024 0)) 0 7
+    -- neighbours in the order of testing, both at once
+    ∷ case (λ ws. word 8 0x000A (word 0 512 ws)) 0 7
+    ∷ case (λ ws. word 0 512 (word 9 0 ws)) 0 8
+    ∷ case (λ ws. word 0 4096 (word 7 4 ws)) 0 8
+    ∷ case (λ ws. word 9 0 (word 25 4096 ws)) 0 12
+    ∷ case (λ ws. word 25 4096 (word 2 4096 ws)) 0 13
+    ∷ case (word 2 4096) 4096 14
     ∷ []
 
 -- a profile's table at an address, with one of its words changed
 table : ℕ → ℕ → ℕ → List ℕ → List ℕ
 table at i value ws = word 0 2048 (word 28 at (word (at + i) value ws))
 
--- N7: each slope and duration, in no other word; N8: each end; only at a good address, and with bit 11 on
+-- N7: each slope and duration, in no other word; N8: each end, before N12; only at a good address, and with bit 11 on
 pub tables : List Case
 tables =
     case (table 512 0 4095) 0 0
@@ -128,7 +135,7 @@ handed ws = word 0 4 (word 26 37 (word 56 1000 (word 57 2000 ws)))
 pub low-pv : Case
 low-pv = case handed 999 11
 
--- N11: p on both sides of each limit; pointers that are no other loop's output, and one that is loop 16's; N7, N8 and N9 before it; no transfer
+-- N11: p on both sides of each limit; pointers that are no other loop's output, and one that is loop 16's; N7, N14 and N9 before it; no transfer
 pub handing : List Case
 handing =
     case handed 1000 0
@@ -143,7 +150,7 @@ handing =
     ∷ case (λ ws. word 26 485 (word 505 4095 (handed ws))) 999 0
     ∷ case (λ ws. word 26 517 (handed ws)) 1000 11
     ∷ case (λ ws. word 8 0x000A (handed ws)) 999 7
-    ∷ case (λ ws. word 37 4096 (handed ws)) 999 8
+    ∷ case (λ ws. word 37 4096 (handed ws)) 999 14
     ∷ case handed 4096 9
     ∷ case (λ ws. word 0 12 (handed ws)) 999 0
     ∷ case (λ ws. word 0 6 (handed ws)) 999 0

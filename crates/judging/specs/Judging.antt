@@ -1,10 +1,11 @@
--- Refusals N7, N8 and N9 of a sample, by what it read, and N11 by its PV too. The settings of N8 stand in five groups.
+-- The refusals of a sample by what it read, N7, N8, N12, N13, N14 and N9, and N11 by its PV too: a group of settings for each number, and the list of
+-- them in the order of testing (O3).
 use Prim.Native.Nat.{ℕ}
 use mathlib.Core.Path.{_≡_}
 use mathlib.Core.Bool.{Bool, false, not, _&&_, _||_}
 use mathlib.Core.List.{List, [], _∷_}
 use lib.Dec.{ltb, eqb}
-use Rattle.refusals.specs.declared.Refusal.the-variants.{Digit, Setting, Above}
+use Rattle.refusals.specs.declared.Refusal.the-variants.{Digit, Setting, Times, Limits, Setpoint, Above}
 use Rattle.refusals.specs.declared.Refusal.the-variants.{Transfer as NoTransfer}
 use Rattle.refusals.specs.Refusals.{Case, _⇒_}
 use Rattle.table.specs.declared.settings.Mode1.{Mode1}
@@ -23,30 +24,29 @@ badModes bits unused hysteresis =
     || unused
     || ((bits .level || bits .deviation) && (ltb hysteresis 1 || ltb 200 hysteresis))
 
--- N8: a period below 0.05 s, or a reset time of 0.00
+-- N12: a period below 0.05 s, or a reset time of 0.00
 abbrev pub badTimes : Tuning → Bool
 badTimes t = ltb (t .period) 5 || eqb (t .reset) 0
 
--- N8: the low output limit above the high one, or that above G
+-- N13: the low output limit above the high one, or that above G
 abbrev pub badLimits : OutputLimits → ℕ → Bool
 badLimits limits G = ltb (limits .high) (limits .low) || ltb G (limits .high)
 
--- N8: word 2 above F; in Cascade, in its place, word 26 above 1,023, or a word above F at that address
+-- N14: word 2 above F; in Cascade, in its place, word 26 above 1,023, or a word above F at that address
 abbrev pub badSetpoint : Bool → ℕ → ℕ → ℕ → ℕ → Bool
 badSetpoint cascade F setpoint pointer remote = (not cascade && ltb F setpoint) || (cascade && (ltb 1023 pointer || ltb F remote))
 
--- O3: N7, of the tuning words and of a ramp/soak table; N8 by its groups, mode bits first, then a table's ramp ends; N9
+-- O3: the order. N7 is of the tuning words and of a ramp/soak table, N8 of the table's ramp ends too
 abbrev pub readingCases : Reading → ℕ → List Case
 readingCases r raw =
     let s = r .settings in
     let F = s .mode2 .input .scale in
     let G = s .mode2 .output .scale in
     ((s .baddigit || r .program .baddigit) ⇒ Digit)
-    ∷ (badModes (s .mode1) (s .mode2 .unused) (s .alarms .hysteresis) ⇒ Setting)
-    ∷ (r .program .highend ⇒ Setting)
-    ∷ (badTimes (s .tuning) ⇒ Setting)
-    ∷ (badLimits (s .limits) G ⇒ Setting)
-    ∷ (badSetpoint (isCascade (r .mode)) F (s .stored .setpoint) (s .pointer) (r .remote) ⇒ Setting)
+    ∷ ((badModes (s .mode1) (s .mode2 .unused) (s .alarms .hysteresis) || r .program .highend) ⇒ Setting)
+    ∷ (badTimes (s .tuning) ⇒ Times)
+    ∷ (badLimits (s .limits) G ⇒ Limits)
+    ∷ (badSetpoint (isCascade (r .mode)) F (s .stored .setpoint) (s .pointer) (r .remote) ⇒ Setpoint)
     ∷ (ltb F raw ⇒ Above)
     ∷ []
 

@@ -1,4 +1,4 @@
-// Whether a sample is accepted, by what it read of the words: N7, N8 and N9; and N11, for which the PV has to be known.
+// Whether a sample is accepted, by what it read of the words: N7, N8, N12, N13, N14 and N9; and N11, for which the PV has to be known.
 use refusals::Answer;
 use refusals::Refusal;
 use table::Major;
@@ -29,19 +29,21 @@ fn bad_modes(bits: Mode1, unused: bool, hysteresis: u16) -> bool
         | ((bits.level | bits.deviation) & ((hysteresis < 1) | (MOST_HYSTERESIS < hysteresis)))
 }
 
+// N12: the period or the reset time.
 fn bad_times(t: Tuning) -> bool
     ensures { λ r. ⌜ r ≡ badTimes t ⌝ }
 {
     (t.period < LEAST_PERIOD) | (t.reset == 0)
 }
 
+// N13: an output limit.
 fn bad_limits(limits: OutputLimits, scale: u16) -> bool
     ensures { λ r. ⌜ r ≡ badLimits limits scale ⌝ }
 {
     (limits.high < limits.low) | (scale < limits.high)
 }
 
-// N8: the setpoint or, in Cascade, the pointer and the word that it names.
+// N14: the setpoint or, in Cascade, the pointer and the word that it names.
 fn bad_setpoint(cascade: bool, scale: u16, setpoint: u16, pointer: u16, remote: u16) -> bool
     ensures { λ r. ⌜ r ≡ badSetpoint cascade scale setpoint pointer remote ⌝ }
 {
@@ -69,20 +71,17 @@ pub fn judge(reading: Reading, raw: u64) -> Answer
     if s.baddigit | reading.program.baddigit {
         return Answer::Refused(Refusal::Digit);
     }
-    if bad_modes(bits, s.mode2.unused, s.alarms.hysteresis) {
-        return Answer::Refused(Refusal::Setting);
-    }
-    if reading.program.highend {
+    if bad_modes(bits, s.mode2.unused, s.alarms.hysteresis) | reading.program.highend {
         return Answer::Refused(Refusal::Setting);
     }
     if bad_times(tuning) {
-        return Answer::Refused(Refusal::Setting);
+        return Answer::Refused(Refusal::Times);
     }
     if bad_limits(limits, s.mode2.output.scale) {
-        return Answer::Refused(Refusal::Setting);
+        return Answer::Refused(Refusal::Limits);
     }
     if bad_setpoint(cascade, scale, s.stored.setpoint, s.pointer, reading.remote) {
-        return Answer::Refused(Refusal::Setting);
+        return Answer::Refused(Refusal::Setpoint);
     }
     if above(scale, raw) {
         return Answer::Refused(Refusal::Above);

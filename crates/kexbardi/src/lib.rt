@@ -13,11 +13,11 @@ ghost use Rattle.desk.specs.Desk.{lent, resetAnswer, resetLeft, storeAnswer, st
 ghost use Rattle.kexbardi.specs.Interface.{lineBy, lineLeft};
 
 // Q10: the version of functions and layout, major, minor and patch as MMmmpp: its one source (package/make).
-const VERSION: u32 = 50100;
+const VERSION: u32 = 50200;
 
 #[no_mangle]
 pub extern "C" fn kexbardi_version() -> u32
-    ensures { λ r. ⌜ r ≡ 50100 ⌝ }
+    ensures { λ r. ⌜ r ≡ 50200 ⌝ }
 {
     VERSION
 }
@@ -55,7 +55,7 @@ fn show(answer: u8, line: &mut [u16; 4], words: &[u16], number: u64)
     }
 }
 
-// Q3: a sample of a loop with a raw PV. 5, 4, 7, 8 or 9; else the words and the loop's record after it, and
+// Q3: a sample of a loop with a raw PV. 5, 4, 5, 7, 8, 12, 13, 14, 9 or 11; else the words and the loop's record after it, and
 // the line: setpoint, PV, output and status.
 #[no_mangle]
 pub extern "C" fn kexbardi_sample(

@@ -1,5 +1,5 @@
 // Why a record of a drill file, or a call, is refused: one list of reasons for reader, engine, desk and setup,
-// with their numbers (N1 to N11).
+// with their numbers (N1 to N14).
 ghost use mathlib.Core.Path.{_≡_};
 ghost use Rattle.refusals.specs.Refusals.{numberOf};
 
@@ -28,6 +28,12 @@ pub const ROOM: u8 = 10;
 
 pub const TRANSFER: u8 = 11;
 
+pub const SETTING_TIMES: u8 = 12;
+
+pub const SETTING_LIMITS: u8 = 13;
+
+pub const SETTING_SETPOINT: u8 = 14;
+
 pub enum Refusal {
     Cut, // N1: the file ends inside the record
     Kind, // N2: the record has no kind, or none that is known
@@ -36,8 +42,11 @@ pub enum Refusal {
     Memory, // N5: the lent words or numbers do not have their length
     Record, // N5: a number of the loop's carried record is out of range
     Store, // N6: no word of that address may be stored
-    Digit, // N7: one of words 7 to 10 has a digit above 9
-    Setting, // N8: a setting that is not allowed
+    Digit, // N7: one of words 7 to 10, or of a profile's table, has a digit above 9
+    Setting, // N8: a mode bit, velocity form with Bumpless II, the hysteresis or a ramp's end
+    Times, // N12: the period or the reset time
+    Limits, // N13: an output limit
+    Setpoint, // N14: the setpoint or, in Cascade, the pointer or the word that it names
     Above, // N9: the raw PV is above full scale
     Room, // N10: the room lent for a setup file is shorter than the file
     Transfer, // N11: a transfer without a major loop, or outside its output limits
@@ -64,6 +73,9 @@ pub fn number_of(answer: Answer) -> u8
             Refusal::Store => STORE,
             Refusal::Digit => DIGIT,
             Refusal::Setting => SETTING,
+            Refusal::Times => SETTING_TIMES,
+            Refusal::Limits => SETTING_LIMITS,
+            Refusal::Setpoint => SETTING_SETPOINT,
             Refusal::Above => ABOVE,
             Refusal::Room => ROOM,
             Refusal::Transfer => TRANSFER,

@@ -98,7 +98,7 @@ unfolding foundAt sampleAnswer
 found-refused d k raw e =
     refused-first (memoryCases d ++ loopCases (d .numbers) k) (judgedCases (d .words) k (readingAt d k) raw) (refused-by _ (recordAt (d .numbers) k) e)
 
--- N7 to N9 refuse alike whatever N11 says; past them N11 decides
+-- what is tested before N11 refuses alike whatever N11 says; past it N11 decides
 pub judged-refused : (ws : List ℕ) (k : ℕ) (r : Reading) (raw : ℕ) {why : Refusal} → firstOf (readingCases r raw) ≡ Refused why
     → firstOf (judgedCases ws k r raw) ≡ Refused why
 judged-refused ws k r raw e = refused-first (readingCases r raw) (transferCases (r .transfer) (majorIn ws k (r .settings .pointer)) (pvIn r raw)) e

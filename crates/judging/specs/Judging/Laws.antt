@@ -13,12 +13,14 @@ use Rattle.table.specs.declared.settings.OutputLimits.{OutputLimits}
 use Rattle.table.specs.declared.transfer.Major.{Major}
 use Rattle.table.specs.declared.reading.Reading.{Reading}
 use Rattle.table.specs.Words.Laws.{or-false}
-use Rattle.judging.specs.Judging.{badTimes, badLimits, badSetpoint, readingCases, badMajor, Passed}
+use Rattle.judging.specs.Judging.{badModes, badTimes, badLimits, badSetpoint, readingCases, badMajor, Passed}
 
 pub passed : (r : Reading) (raw : ℕ) → firstOf (readingCases r raw) ≡ Accepted → Passed r raw
 passed r raw e =
     let no = accepted-at (readingCases r raw) e in
-    record { digit = no 0; modes = no 1; ends = no 2; times = no 3; limits = no 4; setpoint = no 5; above = no 6 }
+    let s = r .settings in
+    let setting = or-false (badModes (s .mode1) (s .mode2 .unused) (s .alarms .hysteresis)) (r .program .highend) (no 1) in
+    record { digit = no 0; modes = setting .0; ends = setting .1; times = no 2; limits = no 3; setpoint = no 4; above = no 5 }
 
 -- and the reverse
 pub passing : (r : Reading) (raw : ℕ) → Passed r raw → firstOf (readingCases r raw) ≡ Accepted

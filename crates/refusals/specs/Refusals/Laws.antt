@@ -1,19 +1,21 @@
--- The laws of the refusals: a number above 0 is a refusal's, and where a list of cases accepts, no condition of it holds.
+-- The laws of the refusals: a number above 0 is a refusal's, where a list of cases accepts no condition of it holds, and else the first that holds is reported.
 use Prim.Native.Nat.{ℕ, zero, suc, _≤_, _<_}
 use native.Mathlib.Omega.{arith}
-use mathlib.Core.Path.{_≡_, refl, sym}
+use mathlib.Core.Path.{_≡_, refl, sym, _∙_}
 use mathlib.Core.Bool.{Bool, true, false, cond}
+use mathlib.Core.Logic.{inl, inr}
 use mathlib.Core.List.{List, [], _∷_, _++_}
 use Rattle.refusals.specs.declared.Refusal.{Refusal}
-use Rattle.refusals.specs.declared.Refusal.the-variants.{Cut, Kind, Length, Loop, Memory, Record, Store, Digit, Setting, Above, Room, Transfer}
+use Rattle.refusals.specs.declared.Refusal.the-variants.{Cut, Kind, Length, Loop, Memory, Record, Store, Digit, Setting, Times, Limits, Setpoint, Above, Room, Transfer}
 use Rattle.refusals.specs.declared.Answer.{Answer}
 use Rattle.refusals.specs.declared.Answer.the-variants.{Accepted, Refused}
-use Rattle.refusals.specs.Refusals.{numberOfRefusal, numberOf, Case, firstOf}
+use Rattle.refusals.specs.Decides.{Decides}
+use Rattle.refusals.specs.Refusals.{numberOfRefusal, numberOf, Case, firstOf, OneOf, Row, FirstIn}
 
 -- ---- numbers
 
--- every refusal has a number from 1 to 11
-pub in-table : (why : Refusal) → (0 < numberOfRefusal why) × (numberOfRefusal why ≤ 11)
+-- every refusal has a number from 1 to 14
+pub in-table : (why : Refusal) → (0 < numberOfRefusal why) × (numberOfRefusal why ≤ 14)
 in-table Cut = omega arith
 in-table Kind = omega arith
 in-table Length = omega arith
@@ -23,6 +25,9 @@ in-table Record = omega arith
 in-table Store = omega arith
 in-table Digit = omega arith
 in-table Setting = omega arith
+in-table Times = omega arith
+in-table Limits = omega arith
+in-table Setpoint = omega arith
 in-table Above = omega arith
 in-table Room = omega arith
 in-table Transfer = omega arith
@@ -89,3 +94,29 @@ first-of-kind P none (x ∷ l) h = go (x .holds) (first-of-kind P none l (h .1))
     go : (b : Bool) → P (numberOf (firstOf l)) → P (numberOf (cond b (Refused (x .why)) (firstOf l)))
     go true rest = h .0
     go false rest = rest
+
+-- ---- the first that holds is reported
+
+-- the cases test the causes of the rows, in their order, and have their numbers
+abbrev pub TestsAll : List Case → List Row → Type 0
+TestsAll [] [] = Unit {0}
+TestsAll [] (row ∷ rows) = ⊥
+TestsAll (x ∷ l) [] = ⊥
+TestsAll (x ∷ l) (row ∷ rows) = (numberOfRefusal (x .why) ≡ row .number) × Decides (x .holds) (OneOf (row .causes)) × TestsAll l rows
+
+-- O4: the answer is then the number of the first row of which a cause holds
+pub first-reported : (l : List Case) (rows : List Row) → TestsAll l rows → FirstIn rows (numberOf (firstOf l))
+first-reported [] [] h = refl
+first-reported (x ∷ l) (row ∷ rows) h = go (x .holds) (h .1) (first-reported l rows (h .2))
+  where
+    go : (b : Bool) → Decides b (OneOf (row .causes)) → FirstIn rows (numberOf (firstOf l)) → FirstIn (row ∷ rows) (numberOf (cond b (Refused (x .why)) (firstOf l)))
+    go true d rest = inl (d .yes refl, h .0)
+    go false d rest = inr (d .no refl, rest)
+
+-- and there is no other
+pub first-alone : (rows : List Row) (m n : ℕ) → FirstIn rows m → FirstIn rows n → m ≡ n
+first-alone [] m n a b = a ∙ sym b
+first-alone (row ∷ rows) m n (inl a) (inl b) = a .1 ∙ sym (b .1)
+first-alone (row ∷ rows) m n (inl a) (inr b) = absurd (b .0 (a .0))
+first-alone (row ∷ rows) m n (inr a) (inl b) = absurd (a .0 (b .0))
+first-alone (row ∷ rows) m n (inr a) (inr b) = first-alone rows m n (a .1) (b .1)

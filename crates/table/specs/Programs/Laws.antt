@@ -2,11 +2,11 @@
 use Prim.Native.Nat.{ℕ, zero, suc, _+_, _-_, _*_, _≤_, _<_}
 use native.Mathlib.Omega.{arith}
 use mathlib.Core.Path.{_≡_, refl}
-use mathlib.Core.Bool.{Bool, true, false, cond, _||_}
+use mathlib.Core.Bool.{Bool, true, false, cond, _&&_, _||_}
 use mathlib.Core.List.{List}
 use lib.ListN.{getD}
 use lib.Dec.{ltb, eqb, eqb→eq}
-use borrow.Author.Tests.{ltb-false, eqb-true, eqb-false}
+use borrow.Author.Tests.{le-ltb, ltb-false, eqb-true, eqb-false}
 use Rattle.numbers.specs.Limits.Laws.{by-test}
 use Rattle.table.specs.declared.program.Program.{Program}
 use Rattle.table.specs.Words.{badDigit, blockAt}
@@ -16,7 +16,7 @@ use Rattle.table.specs.Programs.{faultOf, pairAt, pairNumber, anyBelow, 
 -- ---- the tests of a table
 
 -- where no test below n holds, each is false
-none-below : (n : ℕ) (test : ℕ → Bool) → anyBelow n test ≡ false → (i : ℕ) → i < n → test i ≡ false
+pub none-below : (n : ℕ) (test : ℕ → Bool) → anyBelow n test ≡ false → (i : ℕ) → i < n → test i ≡ false
 unfolding anyBelow
 none-below zero test e i h = absurd (omega arith)
 none-below (suc n) test e i h =
@@ -51,6 +51,10 @@ good-address at e = go (ltb at 512) (ltb 992 at) refl refl e
     go false true x y z = absurd (omega arith)
     go false false x y z = (ltb-false _ _ x, ltb-false _ _ y)
 
+pub address-good : (at : ℕ) → 512 ≤ at → at ≤ 992 → faultOf at ≡ 0
+unfolding faultOf
+address-good at low high = rw (le-ltb at 512 low, le-ltb 992 at high)
+
 -- what is known of a program whose table has passed: the pair's numbers are decimal, and its end is within the scale
 pub record Fair (p : Program) (scale : ℕ) : Type 0 where
   pub slope : p .pair .slope ≤ 9999
@@ -77,19 +81,25 @@ module _ (words : List ℕ) (at scale segment : ℕ) where
   program-on bit =
       by-program (λ (p : Program). p .on ≡ true → (bit ≡ true) × (faultOf at ≡ 0)) bit (λ fault e. let z : false ≡ true = e in (cc, cc)) (λ b f _. (b, f))
 
-  -- and its pair is the carried segment's; word 29 is what is wrong with the address, where bit 11 is on
+  -- and the other way round
+  pub program-there : (bit : Bool) → bit ≡ true → faultOf at ≡ 0 → programOf words bit at scale segment .on ≡ true
+  unfolding programOf
+  program-there bit on good = rw (on, good)
+
+  -- its pair is the carried segment's; word 29 is what is wrong with the address, where bit 11 is on
   pub program-pair : (bit : Bool) → programOf words bit at scale segment .on ≡ true
       → programOf words bit at scale segment .pair ≡ pairAt (blockAt words at) (pairNumber segment)
   unfolding noProgram
   program-pair bit =
       by-program (λ (p : Program). p .on ≡ true → p .pair ≡ pairAt (blockAt words at) (pairNumber segment)) bit (λ fault e. let z : false ≡ true = e in cc) (λ _ _ _. refl)
 
-  -- its ends are tested against the scale
-  pub program-ends : (bit : Bool) → programOf words bit at scale segment .on ≡ true
-      → programOf words bit at scale segment .highend ≡ highEndIn scale (blockAt words at)
+  -- N7, N8: where there is one its digits are tested, and its ends against the scale; else nothing is
+  pub program-tested : (bit : Bool) → let p = programOf words bit at scale segment in
+      (p .baddigit ≡ (p .on && badDigitIn (blockAt words at))) × (p .highend ≡ (p .on && highEndIn scale (blockAt words at)))
   unfolding noProgram
-  program-ends bit =
-      by-program (λ (p : Program). p .on ≡ true → p .highend ≡ highEndIn scale (blockAt words at)) bit (λ fault e. let z : false ≡ true = e in cc) (λ _ _ _. refl)
+  program-tested bit =
+      by-program (λ (p : Program). (p .baddigit ≡ (p .on && badDigitIn (blockAt words at))) × (p .highend ≡ (p .on && highEndIn scale (blockAt words at)))) bit
+      (λ fault. (refl, refl)) (λ _ _. (refl, refl))
 
   pub program-fault : (bit : Bool) → programOf words bit at scale segment .fault ≡ cond bit (faultOf at) 0
   unfolding programOf noProgram

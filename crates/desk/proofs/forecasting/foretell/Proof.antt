@@ -45,7 +45,7 @@ module _ (c : tie.After-judge) where
 no-transfer-requires : tie.Need-no-transfer-requires
 no-transfer-requires c κs = search needs
 
--- past N7 to N9 it is N11 with p = 0 that decides
+-- past all others it is N11 with p = 0 that decides
 module _ (c : tie.After-no-transfer) where
   abbrev reading : Reading
   reading = let a = start (c .before .before .before) .args in readingBy (now (a .words)) (a .number) (a .carried)

@@ -71,7 +71,7 @@ cast-raw c =
 no-transfer-requires : tie.Need-no-transfer-requires
 no-transfer-requires c κs = search needs
 
--- past N7 to N9 it is N11 that decides
+-- past all others it is N11 that decides
 passed : (c : tie.After-no-transfer) → let j = c .before .before .before .before in
     judgedAnswer (desk j) (start j .args .number) (start j .args .raw) ≡ firstOf ((c .no-transfer .result ⇒ NoTransfer) ∷ [])
 unfolding start

@@ -1,0 +1,137 @@
+-- Which number a sample is refused with: for each the words and numbers that cause it, in the one order in which they are tested (O3, O4). A forecast
+-- and a sample of a drill file go by the same rows. What was, one number for every setting, stands here once more.
+use Prim.Native.Nat.{ℕ, _+_, _*_, _≤_, _<_}
+use mathlib.Core.Path.{_≡_}
+use mathlib.Core.Bool.{true, false, cond, _||_}
+use mathlib.Core.Logic.{_⊎_}
+use mathlib.Core.List.{List, [], _∷_, _++_}
+use lib.Dec.{ltb, eqb}
+use lib.ListN.{length, getD}
+use Rattle.refusals.specs.declared.Refusal.the-variants.{Digit, Setting, Above}
+use Rattle.refusals.specs.Refusals.{numberOf, Case, _⇒_, firstOf, Row, _when_, FirstIn}
+use Rattle.reader.specs.declared.Record.{Record}
+use Rattle.reader.specs.declared.Record.the-variants.{Sample}
+use Rattle.reader.specs.File.{recordsOf}
+use Rattle.table.specs.declared.reading.Reading.{Reading}
+use Rattle.table.specs.Words.{bit, bcd, badDigit}
+use Rattle.table.specs.Modes.{isCascade}
+use Rattle.table.specs.Settings.{unusedBits}
+use Rattle.table.specs.Transfers.{majorIn}
+use Rattle.carried.specs.Layout.{slotOf, outOfRange, numbersAt}
+use Rattle.judging.specs.Judging.{badModes, badTimes, badLimits, badSetpoint, transferCases}
+use Rattle.engine.specs.Sensing.{pvIn}
+use Rattle.desk.specs.Desk.{Desk, fittingOf, memoryCases, loopCases, readingAt, sampleAnswer, forecastAt}
+use Rattle.session.specs.Session.{begun, runOf, answersOf}
+use Rattle.kexbardi_profiles.specs.Told.{toldBy}
+use Rattle.claims.specs.Calls.{transferAt, ToMajor}
+use Rattle.claims.specs.Formats.{wordOf, inputFull, outputFull}
+
+-- ---- the causes, by the words of loop k
+
+-- G1, G2: the loop has a ramp/soak table: bit 11 of mode 1 is on, and word 28 is a good address
+pub record Tabled (d : Desk) (k : ℕ) : Type 0 where
+  pub on : bit 11 (wordOf d k 0) ≡ true
+  pub low : 512 ≤ wordOf d k 28
+  pub high : wordOf d k 28 ≤ 992
+
+-- G1: word i of the table; and that one of its eight ramps, or of their soaks, is so
+abbrev pub tableWord : Desk → ℕ → ℕ → ℕ
+tableWord d k i = getD (d .words) (wordOf d k 28 + i) 0
+
+abbrev pub InTable : Desk → ℕ → (ℕ → Type 0) → Type 0
+InTable d k P = Tabled d k × ((i : ℕ) × (i < 8) × P i)
+
+-- N7: a digit above 9: in period, gain, reset or rate; in a slope or duration of the table
+abbrev pub wrongDigit : Desk → ℕ → List (Type 0)
+wrongDigit d k =
+    (badDigit (wordOf d k 7) ≡ true)
+    ∷ (badDigit (wordOf d k 8) ≡ true)
+    ∷ (badDigit (wordOf d k 9) ≡ true)
+    ∷ (badDigit (wordOf d k 10) ≡ true)
+    ∷ InTable d k (λ i. (badDigit (tableWord d k (4 * i + 1)) ≡ true) ⊎ (badDigit (tableWord d k (4 * i + 2)) ≡ true))
+    ∷ []
+
+-- N8: velocity form with Bumpless II; bit 9 of mode 1; a bit of mode 2 that has to be off; the hysteresis of alarms that are watched; a ramp's end
+abbrev pub wrongMode : Desk → ℕ → List (Type 0)
+wrongMode d k =
+    ((bit 5 (wordOf d k 0) ≡ true) × (bit 3 (wordOf d k 0) ≡ true))
+    ∷ (bit 9 (wordOf d k 0) ≡ true)
+    ∷ (unusedBits (wordOf d k 1) ≡ true)
+    ∷ (((bit 12 (wordOf d k 0) ≡ true) ⊎ (bit 13 (wordOf d k 0) ≡ true)) × ((wordOf d k 18 < 1) ⊎ (200 < wordOf d k 18)))
+    ∷ InTable d k (λ i. inputFull d k < tableWord d k (4 * i))
+    ∷ []
+
+-- N12: the period in hundredths of a second is below 5; the reset time is 0
+abbrev pub wrongTime : Desk → ℕ → List (Type 0)
+wrongTime d k = (bcd (wordOf d k 7) < 5) ∷ (bcd (wordOf d k 9) ≡ 0) ∷ []
+
+-- N13: the low output limit is above the high one; that is above G
+abbrev pub wrongLimit : Desk → ℕ → List (Type 0)
+wrongLimit d k = (wordOf d k 25 < wordOf d k 24) ∷ (outputFull d k < wordOf d k 25) ∷ []
+
+-- N14: outside Cascade the setpoint is above F; in Cascade the pointer is no address, or the word that it names is above F
+abbrev pub wrongSetpoint : Desk → ℕ → List (Type 0)
+wrongSetpoint d k =
+    let cascade = isCascade (readingAt d k .mode) in
+    ((cascade ≡ false) × (inputFull d k < wordOf d k 2))
+    ∷ ((cascade ≡ true) × ((1023 < wordOf d k 26) ⊎ (inputFull d k < getD (d .words) (wordOf d k 26) 0)))
+    ∷ []
+
+-- ---- the order
+
+-- O3: a sample of loop k with a raw PV
+abbrev pub sampleRows : Desk → ℕ → ℕ → List Row
+sampleRows d k raw =
+    (5 when ((length (d .words) ≡ 1024 → ⊥) ∷ (length (d .numbers) ≡ 224 → ⊥) ∷ []))
+    ∷ (4 when ((k < 1) ∷ (16 < k) ∷ []))
+    ∷ (5 when ((outOfRange (numbersAt (d .numbers) (slotOf k)) ≡ true) ∷ []))
+    ∷ (7 when wrongDigit d k)
+    ∷ (8 when wrongMode d k)
+    ∷ (12 when wrongTime d k)
+    ∷ (13 when wrongLimit d k)
+    ∷ (14 when wrongSetpoint d k)
+    ∷ (9 when ((inputFull d k < raw) ∷ []))
+    ∷ (11 when (((transferAt d k ≡ true) × (ToMajor d k raw → ⊥)) ∷ []))
+    ∷ []
+
+-- ---- what was
+
+-- one number for the five groups of settings; G is the full scale that the output limits were tested against
+abbrev pub casesThen : Reading → ℕ → ℕ → List Case
+casesThen r G raw =
+    let s = r .settings in
+    let F = s .mode2 .input .scale in
+    ((s .baddigit || r .program .baddigit) ⇒ Digit)
+    ∷ (badModes (s .mode1) (s .mode2 .unused) (s .alarms .hysteresis) ⇒ Setting)
+    ∷ (r .program .highend ⇒ Setting)
+    ∷ (badTimes (s .tuning) ⇒ Setting)
+    ∷ (badLimits (s .limits) G ⇒ Setting)
+    ∷ (badSetpoint (isCascade (r .mode)) F (s .stored .setpoint) (s .pointer) (r .remote) ⇒ Setting)
+    ∷ (ltb F raw ⇒ Above)
+    ∷ []
+
+-- the number that a sample of loop k was answered with
+abbrev pub sampleThen : Desk → ℕ → ℕ → ℕ → ℕ
+sampleThen d k G raw =
+    let r = readingAt d k in
+    numberOf
+    (firstOf
+    (memoryCases d
+    ++ (loopCases (d .numbers) k ++ (casesThen r G raw ++ transferCases (r .transfer) (majorIn (d .words) k (r .settings .pointer)) (pvIn r raw)))))
+
+-- and today's number as it was
+abbrev pub numberThen : ℕ → ℕ
+numberThen n = cond (eqb n 12 || eqb n 13 || eqb n 14) 8 n
+
+pub record Ordered : Type 0 where
+  -- O4: a sample is answered with the number of the first row of which a cause holds, with 0 where there is none, and no other number is that
+  pub samples : (d : Desk) (k raw : ℕ) → FirstIn (sampleRows d k raw) (numberOf (sampleAnswer d k raw))
+  pub alone : (d : Desk) (k raw m n : ℕ) → FirstIn (sampleRows d k raw) m → FirstIn (sampleRows d k raw) n → m ≡ n
+  -- Q11: a forecast as a sample with raw PV 0
+  pub forecasts : (d : Desk) (k samples : ℕ) → FirstIn (sampleRows d k 0) (toldBy (forecastAt d k) samples .number)
+  -- O2: a sample of a file as on the desk that the records before it leave
+  pub files : (file : List ℕ) (d : Desk) → fittingOf d ≡ true → (before : List Record) (k raw : ℕ) (after : List Record)
+      → recordsOf file ≡ before ++ (Sample k raw ∷ after)
+      → FirstIn (sampleRows (runOf (begun d) before .desk) k raw) (getD (answersOf file d) (length before) 0)
+  -- 12, 13 and 14 stand for 8, and nothing else differs from what was: no sample is refused that was accepted, none accepted that was refused
+  pub renumbered : (d : Desk) (k raw : ℕ) → numberThen (numberOf (sampleAnswer d k raw)) ≡ sampleThen d k (outputFull d k) raw
