@@ -1,4 +1,4 @@
--- The proofs of the three demands and of what is promised of profiles, of the root, of the setup file, of the transfer and of two formats, and the computed examples that they rest beside.
+-- The proofs of the three demands and of what is promised of profiles, of the root, of the setup file, of the transfer, of two formats and of a sample's refusals, and the computed examples that they rest beside.
 pub mod Turns
 pub mod Names
 pub mod Calls

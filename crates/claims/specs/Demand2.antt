@@ -19,7 +19,7 @@ use Rattle.kexbardi.specs.Interface.{lineLeft}
 use Rattle.claims.specs.Turns.{Turn, behindAll}
 use Rattle.claims.specs.Calls.{Settled, transferAt, majorAt, pvAt, ToMajor}
 
--- O3: no refusal holds: the memory has its lengths, there is such a loop, its record is in range, and what is read passes N7, N8, N9 and N11
+-- O3: no refusal holds: the memory has its lengths, there is such a loop, its record is in range, and what is read passes N7 to N9 and N11 to N14
 pub record Acceptable (d : Desk) (k raw : ℕ) : Type 0 where
   pub memory : fittingOf d ≡ true
   pub loop : (1 ≤ k) × (k ≤ 16)

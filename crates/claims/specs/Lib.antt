@@ -1,5 +1,5 @@
--- The client's three demands, and what is promised of profiles, of the root, of the setup file, of the transfer to Cascade and of two formats, each a type whose proof stands beside
--- it in proofs/. They speak of the definitions that the contracts of the exported calls cite: any lent words, any lent numbers, any lengths.
+-- The client's three demands, and what is promised of profiles, of the root, of the setup file, of the transfer to Cascade, of two formats and of a sample's refusals, each a type
+-- whose proof stands beside it in proofs/. They speak of the definitions that the contracts of the exported calls cite: any lent words, any lent numbers, any lengths.
 pub mod Turns
 pub mod Names
 pub mod Calls

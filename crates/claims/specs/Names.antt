@@ -1,5 +1,5 @@
 -- What the names in the demands stand for, an equation each, so that no definition between them and the rest can change unnoticed. Left to be
--- read where they stand: a sample's steps A1 to A12 (`stepOf`), what it reads (`readingOf`), the groups of N8, a record as numbers (`numbersOf`), the
+-- read where they stand: a sample's steps A1 to A12 (`stepOf`), what it reads (`readingOf`), a record as numbers (`numbersOf`), the
 -- plain loop's sample (`plainAfter`), a forecast's count (`forecastOf`), and the text of a line.
 use Prim.Native.Nat.{ℕ, _+_, _-_, _*_, _≤_, _<_}
 use mathlib.Core.Path.{_≡_}
