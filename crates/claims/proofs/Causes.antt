@@ -15,10 +15,10 @@ use Rattle.refusals.specs.Refusals.Laws.{TestsAll, first-reported, first-alone}
 use Rattle.reader.specs.declared.Record.{Record as Item}
 use Rattle.reader.specs.declared.Record.the-variants.{Sample}
 use Rattle.reader.specs.File.{recordsOf}
-use Rattle.table.specs.Words.{bit, bcd, badDigit, any, anyAfter, baseOf, blockAt}
+use Rattle.table.specs.Words.{bit, bcd, badDigit, any, anyAfter, blockAt}
 use Rattle.table.specs.Words.Laws.{and-true, block-at}
 use Rattle.table.specs.Modes.{isCascade}
-use Rattle.table.specs.Settings.{mode1Of, unusedBits, mode2Of, badDigits, tuningOf, settingsOf}
+use Rattle.table.specs.Settings.{mode1Of, unusedBits, badDigits, tuningOf, settingsOf}
 use Rattle.table.specs.Programs.{anyBelow, badDigitIn, highEndIn}
 use Rattle.table.specs.Programs.Laws.{none-below, good-address, address-good, program-on, program-there, program-tested}
 use Rattle.table.specs.Reading.{remoteOf, readingOf}
@@ -31,6 +31,7 @@ use Rattle.claims.specs.Calls.{transferAt, pvAt, ToMajor}
 use Rattle.claims.specs.Formats.{wordOf, inputFull, outputFull}
 use Rattle.claims.specs.Causes.{Tabled, tableWord, InTable, wrongDigit, wrongMode, wrongTime, wrongLimit, wrongSetpoint, sampleRows, sampleThen, numberThen, Ordered}
 use Rattle.claims.proofs.Calls.{read, no-major, passing-major, forecasts}
+use Rattle.claims.proofs.Formats.{at, unused, low, high, setpoint2}
 
 -- ---- several tests
 
@@ -84,16 +85,13 @@ below n test P d = record {
 -- ---- what is read of the words of a loop
 
 module _ (d : Desk) (k : ℕ) where
-  at : (i : ℕ) → i < 32 → getD (blockAt (d .words) (baseOf k)) i 0 ≡ wordOf d k i
-  at i h = block-at (d .words) (baseOf k) i h
-
   -- a word of the table, by its place in it
   of-table : (i : ℕ) → i < 32 → getD (blockAt (d .words) (wordOf d k 28)) i 0 ≡ tableWord d k i
   of-table i h = block-at (d .words) (wordOf d k 28) i h
 
   profile : readingAt d k .settings .mode1 .profile ≡ bit 11 (wordOf d k 0)
   unfolding readingOf settingsOf
-  profile = rw (at 0 (lit< tt))
+  profile = rw (at d k 0 (lit< tt))
 
   there : readingAt d k .program .on ≡ true → Tabled d k
   unfolding readingOf
@@ -125,7 +123,7 @@ module _ (d : Desk) (k : ℕ) where
 
   word-digits : readingAt d k .settings .baddigit ≡ (badDigit (wordOf d k 7) || badDigit (wordOf d k 8) || badDigit (wordOf d k 9) || badDigit (wordOf d k 10))
   unfolding readingOf settingsOf badDigits
-  word-digits = rw (at 7 (lit< tt), at 8 (lit< tt), at 9 (lit< tt), at 10 (lit< tt))
+  word-digits = rw (at d k 7 (lit< tt), at d k 8 (lit< tt), at d k 9 (lit< tt), at d k 10 (lit< tt))
 
   digits : Decides (readingAt d k .settings .baddigit || readingAt d k .program .baddigit) (OneOf (wrongDigit d k))
   digits =
@@ -150,20 +148,16 @@ module _ (d : Desk) (k : ℕ) where
 
   bits : readingAt d k .settings .mode1 ≡ mode1Of (wordOf d k 0)
   unfolding readingOf settingsOf
-  bits = ap mode1Of (at 0 (lit< tt))
-
-  unused : readingAt d k .settings .mode2 .unused ≡ unusedBits (wordOf d k 1)
-  unfolding readingOf settingsOf mode2Of
-  unused = ap unusedBits (at 1 (lit< tt))
+  bits = ap mode1Of (at d k 0 (lit< tt))
 
   hysteresis : readingAt d k .settings .alarms .hysteresis ≡ wordOf d k 18
   unfolding readingOf settingsOf
-  hysteresis = at 18 (lit< tt)
+  hysteresis = at d k 18 (lit< tt)
 
   modes : Decides (badModes (readingAt d k .settings .mode1) (readingAt d k .settings .mode2 .unused) (readingAt d k .settings .alarms .hysteresis) || readingAt d k .program .highend)
       (OneOf (wrongMode d k))
   modes =
-      rw (bits, unused, hysteresis)
+      rw (bits, unused d k, hysteresis)
       (one-of
       ((bit 5 (wordOf d k 0) && bit 3 (wordOf d k 0))
       ∷ bit 9 (wordOf d k 0)
@@ -189,32 +183,20 @@ module _ (d : Desk) (k : ℕ) where
 
   times : Decides (badTimes (readingAt d k .settings .tuning)) (OneOf (wrongTime d k))
   unfolding readingOf settingsOf tuningOf
-  times = rw (at 7 (lit< tt), at 9 (lit< tt)) (one-of (ltb (bcd (wordOf d k 7)) 5 ∷ eqb (bcd (wordOf d k 9)) 0 ∷ []) (wrongTime d k) (is-less _ _, (is-same _ _, tt)))
-
-  low : readingAt d k .settings .limits .low ≡ wordOf d k 24
-  unfolding readingOf settingsOf
-  low = at 24 (lit< tt)
-
-  high : readingAt d k .settings .limits .high ≡ wordOf d k 25
-  unfolding readingOf settingsOf
-  high = at 25 (lit< tt)
+  times = rw (at d k 7 (lit< tt), at d k 9 (lit< tt)) (one-of (ltb (bcd (wordOf d k 7)) 5 ∷ eqb (bcd (wordOf d k 9)) 0 ∷ []) (wrongTime d k) (is-less _ _, (is-same _ _, tt)))
 
   limits : Decides (badLimits (readingAt d k .settings .limits) (outputFull d k)) (OneOf (wrongLimit d k))
-  limits = rw (low, high) (one-of (ltb (wordOf d k 25) (wordOf d k 24) ∷ ltb (outputFull d k) (wordOf d k 25) ∷ []) (wrongLimit d k) (is-less _ _, (is-less _ _, tt)))
+  limits = rw (low d k, high d k) (one-of (ltb (wordOf d k 25) (wordOf d k 24) ∷ ltb (outputFull d k) (wordOf d k 25) ∷ []) (wrongLimit d k) (is-less _ _, (is-less _ _, tt)))
 
   -- ---- N14
 
-  word2 : readingAt d k .settings .stored .setpoint ≡ wordOf d k 2
-  unfolding readingOf settingsOf
-  word2 = at 2 (lit< tt)
-
   pointer : readingAt d k .settings .pointer ≡ wordOf d k 26
   unfolding readingOf settingsOf
-  pointer = at 26 (lit< tt)
+  pointer = at d k 26 (lit< tt)
 
   remote : isCascade (readingAt d k .mode) ≡ true → readingAt d k .remote ≡ getD (d .words) (wordOf d k 26) 0
   unfolding readingOf remoteOf settingsOf
-  remote on = rw (on, at 26 (lit< tt))
+  remote on = rw (on, at d k 26 (lit< tt))
 
   setpoint : Decides
       (badSetpoint (isCascade (readingAt d k .mode)) (inputFull d k) (readingAt d k .settings .stored .setpoint) (readingAt d k .settings .pointer) (readingAt d k .remote))
@@ -222,7 +204,7 @@ module _ (d : Desk) (k : ℕ) where
   setpoint =
       let cascade = isCascade (readingAt d k .mode) in
       let far = readingAt d k .remote in
-      rw (word2, pointer)
+      rw (setpoint2 d k, pointer)
       (one-of ((not cascade && ltb (inputFull d k) (wordOf d k 2)) ∷ (cascade && (ltb 1023 (wordOf d k 26) || ltb (inputFull d k) far)) ∷ []) (wrongSetpoint d k)
       (is-both _ _ (is-false cascade) (λ _. is-less _ _), (is-both _ _ (is-true cascade) (λ on. is-or _ _ (is-less _ _) (rw (remote on) (is-less _ _))), tt)))
 

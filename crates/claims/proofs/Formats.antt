@@ -85,7 +85,7 @@ module _ (d : Desk) (k : ℕ) where
   abbrev block : List ℕ
   block = blockAt (d .words) (baseOf k)
 
-  at : (i : ℕ) → i < 32 → getD block i 0 ≡ wordOf d k i
+  pub at : (i : ℕ) → i < 32 → getD block i 0 ≡ wordOf d k i
   at i h = block-at (d .words) (baseOf k) i h
 
   mode2 : readingAt d k .settings .mode2 ≡ mode2Of (wordOf d k 1)
@@ -110,7 +110,7 @@ module _ (d : Desk) (k : ℕ) where
   unfolding mode2Of
   separate = ap (λ (m : Mode2). m .separate) mode2
 
-  unused : readingAt d k .settings .mode2 .unused ≡ unusedBits (wordOf d k 1)
+  pub unused : readingAt d k .settings .mode2 .unused ≡ unusedBits (wordOf d k 1)
   unfolding mode2Of
   unused = ap (λ (m : Mode2). m .unused) mode2
 
@@ -126,10 +126,10 @@ module _ (d : Desk) (k : ℕ) where
   unfolding readingOf settingsOf
   deadband = at 19 (lit< tt)
 
-  low : readingAt d k .settings .limits .low ≡ wordOf d k 24
+  pub low : readingAt d k .settings .limits .low ≡ wordOf d k 24
   low = let c = recordAt (d .numbers) k .state in limit-low (d .words) k (c .mode) (c .profile .segment)
 
-  high : readingAt d k .settings .limits .high ≡ wordOf d k 25
+  pub high : readingAt d k .settings .limits .high ≡ wordOf d k 25
   high = let c = recordAt (d .numbers) k .state in limit-high (d .words) k (c .mode) (c .profile .segment)
 
   minutes : readingAt d k .settings .mode2 .minutes ≡ bit 4 (wordOf d k 1)
@@ -144,7 +144,7 @@ module _ (d : Desk) (k : ℕ) where
   unfolding readingOf settingsOf
   bias4 = at 4 (lit< tt)
 
-  setpoint2 : readingAt d k .settings .stored .setpoint ≡ wordOf d k 2
+  pub setpoint2 : readingAt d k .settings .stored .setpoint ≡ wordOf d k 2
   unfolding readingOf settingsOf
   setpoint2 = at 2 (lit< tt)
 
