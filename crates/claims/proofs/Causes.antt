@@ -1,54 +1,67 @@
 -- Which number a sample is refused with, proved: each test of the definitions decides the causes of its row.
-use Prim.Native.Nat.{ℕ, zero, suc, _+_, _*_, _<_}
+use Prim.Native.Nat.{ℕ, zero, suc, _+_, _*_, _/_, _%_, _≤_, _<_}
 use native.Mathlib.Omega.{arith}
+use native.Mathlib.Nat.{mul-le-mul}
 use mathlib.Core.Path.{_≡_, refl, sym, ap, _∙_, subst}
-use mathlib.Core.Bool.{Bool, true, false, not, _&&_, _||_, false≢true}
+use mathlib.Core.Bool.{Bool, true, false, cond, not, _&&_, _||_, false≢true}
 use mathlib.Core.Logic.{_⊎_, inl, inr}
 use mathlib.Core.List.{List, [], _∷_, _++_}
 use lib.Dec.{ltb, eqb, lit<}
+use lib.IntN.{ℤ, pos, negsuc}
 use lib.ListN.{length, getD}
+use lib.Signed.{_≤ℤ_}
+use Rattle.numbers.specs.Whole.{linear}
+use Rattle.numbers.specs.Roots.{Nearest}
+use Rattle.numbers.specs.Roots.Laws.{root-exact}
 use Rattle.refusals.specs.declared.Refusal.the-variants.{Memory, Record, Digit, Setting, Times, Limits, Setpoint, Above}
 use Rattle.refusals.specs.declared.Refusal.the-variants.{Loop as NoLoop, Transfer as NoTransfer}
-use Rattle.refusals.specs.Decides.{Decides, in-words, is-true, is-false, is-less, is-same, is-not, is-or, is-both}
+use Rattle.refusals.specs.Decides.{Decides, in-words, so, not-so, is-true, is-false, is-less, is-same, is-not, is-or, is-both}
 use Rattle.refusals.specs.Refusals.{numberOf, _⇒_, firstOf, OneOf, FirstIn}
-use Rattle.refusals.specs.Refusals.Laws.{TestsAll, first-reported, first-alone}
+use Rattle.refusals.specs.Refusals.Laws.{Tests, done, tests, first-reported, first-alone}
 use Rattle.reader.specs.declared.Record.{Record as Item}
 use Rattle.reader.specs.declared.Record.the-variants.{Sample}
 use Rattle.reader.specs.File.{recordsOf}
 use Rattle.table.specs.Words.{bit, bcd, badDigit, any, anyAfter, blockAt}
-use Rattle.table.specs.Words.Laws.{and-true, block-at}
-use Rattle.table.specs.Modes.{isCascade}
+use Rattle.table.specs.Words.Laws.{block-at}
+use Rattle.table.specs.declared.mode.Mode.{Mode}
+use Rattle.table.specs.declared.mode.Mode.the-variants.{Manual, Automatic, Cascade}
+use Rattle.table.specs.Modes.{isAutomatic, isCascade}
+use Rattle.table.specs.Transfers.{transfers, majorOf}
+use Rattle.table.specs.Transfers.Laws.{major-is, major-found}
 use Rattle.table.specs.Settings.{mode1Of, unusedBits, badDigits, tuningOf, settingsOf}
 use Rattle.table.specs.Programs.{anyBelow, badDigitIn, highEndIn}
 use Rattle.table.specs.Programs.Laws.{none-below, good-address, address-good, program-on, program-there, program-tested}
-use Rattle.table.specs.Reading.{remoteOf, readingOf}
-use Rattle.carried.specs.Layout.{slotOf, outOfRange, numbersAt}
+use Rattle.table.specs.Reading.{modeAfter, remoteOf, readingOf}
+use Rattle.table.specs.Reading.Laws.{input-scale}
+use Rattle.carried.specs.Layout.{modeFrom, recordFrom, slotOf, outOfRange, numbersAt, recordAt}
+use Rattle.carried.specs.Layout.Laws.{rows-in}
+use Rattle.engine.specs.Sensing.{pvOf}
 use Rattle.judging.specs.Judging.{badModes, badTimes, badLimits, badSetpoint, badMajor}
+use Rattle.judging.specs.Judging.Laws.{major-good}
 use Rattle.desk.specs.Desk.{Desk, fittingOf, noLoop, readingAt, sampleCases, sampleAnswer}
 use Rattle.desk.specs.Lists.{answerTo}
 use Rattle.session.specs.Session.{numberFor, State, begun, after, runOf, answersFor, answersOf}
-use Rattle.claims.specs.Calls.{transferAt, pvAt, ToMajor}
+use Rattle.claims.specs.Calls.{transferAt, majorAt, pvAt, ToMajor}
 use Rattle.claims.specs.Formats.{wordOf, inputFull, outputFull}
-use Rattle.claims.specs.Causes.{Tabled, tableWord, InTable, wrongDigit, wrongMode, wrongTime, wrongLimit, wrongSetpoint, sampleRows, sampleThen, numberThen, Ordered}
-use Rattle.claims.proofs.Calls.{read, no-major, passing-major, forecasts}
+use Rattle.claims.specs.Causes.{HighDigit, hundredths, StrayBit, modeCarried, InCascade, Transferring, Receives, Tabled, tableWord, InTable, wrongDigit, wrongMode, wrongTime, wrongLimit, wrongSetpoint, sampleRows, sampleThen, numberThen, Ordered}
+use Rattle.claims.proofs.Calls.{read, to-major, passing-major, forecasts}
 use Rattle.claims.proofs.Formats.{at, unused, low, high, setpoint2}
 
 -- ---- several tests
 
 -- a test for each statement of a list
-abbrev pub DecidesAll : List Bool → List (Type 0) → Type 0
-DecidesAll [] [] = Unit {0}
-DecidesAll [] (P ∷ Ps) = ⊥
-DecidesAll (b ∷ l) [] = ⊥
-DecidesAll (b ∷ l) (P ∷ Ps) = Decides b P × DecidesAll l Ps
+infixr 10 _also_
+pub data DecidesAll : List Bool → List (Type 0) → Type 1 where
+  no-more : DecidesAll [] []
+  _also_ : {b : Bool} {l : List Bool} {P : Type 0} {Ps : List (Type 0)} → Decides b P → DecidesAll l Ps → DecidesAll (b ∷ l) (P ∷ Ps)
 
 one-of-after : (l : List Bool) (Ps : List (Type 0)) → DecidesAll l Ps → (b : Bool) (P : Type 0) → Decides b P → Decides (anyAfter b l) (P ⊎ OneOf Ps)
-one-of-after [] [] h b P d = in-words inl only d
+one-of-after [] [] no-more b P d = in-words inl only d
   where
     only : P ⊎ ⊥ → P
     only (inl p) = p
     only (inr none) = absurd none
-one-of-after (x ∷ l) (Q ∷ Ps) h b P d = in-words right left (one-of-after l Ps (h .1) (b || x) (P ⊎ Q) (is-or b x d (h .0)))
+one-of-after (x ∷ l) (Q ∷ Ps) (e also h) b P d = in-words right left (one-of-after l Ps h (b || x) (P ⊎ Q) (is-or b x d e))
   where
     right : (P ⊎ Q) ⊎ OneOf Ps → P ⊎ (Q ⊎ OneOf Ps)
     right (inl (inl p)) = inl p
@@ -61,8 +74,22 @@ one-of-after (x ∷ l) (Q ∷ Ps) h b P d = in-words right left (one-of-after l 
     left (inr (inr rest)) = inr rest
 
 one-of : (tests : List Bool) (causes : List (Type 0)) → DecidesAll tests causes → Decides (any tests) (OneOf causes)
-one-of [] [] h = record { yes = λ e. absurd (false≢true e); no = λ _ none. none }
-one-of (b ∷ l) (P ∷ Ps) h = one-of-after l Ps (h .1) b P (h .0)
+one-of [] [] no-more = record { yes = λ e. absurd (false≢true e); no = λ _ none. none }
+one-of (b ∷ l) (P ∷ Ps) (d also h) = one-of-after l Ps h b P d
+
+-- ---- single words
+
+is-digit : (w : ℕ) → Decides (badDigit w) (HighDigit w)
+unfolding badDigit
+is-digit w =
+    one-of (ltb 9 (w / 4096 % 16) ∷ ltb 9 (w / 256 % 16) ∷ ltb 9 (w / 16 % 16) ∷ ltb 9 (w % 16) ∷ []) _
+    (is-less _ _ also is-less _ _ also is-less _ _ also is-less _ _ also no-more)
+
+is-stray : (w : ℕ) → Decides (unusedBits w) (StrayBit w)
+is-stray w =
+    one-of (bit 0 w ∷ bit 2 w ∷ bit 3 w ∷ bit 5 w ∷ bit 6 w ∷ bit 7 w ∷ bit 11 w ∷ bit 14 w ∷ bit 15 w ∷ (not (bit 10 w) && (bit 12 w || bit 13 w)) ∷ []) _
+    (is-true _ also is-true _ also is-true _ also is-true _ also is-true _ also is-true _ also is-true _ also is-true _ also is-true _
+    also is-both _ _ (is-false _) (λ _. is-or _ _ (is-true _) (is-true _)) also no-more)
 
 -- a test that holds of a number below n
 some-below : (n : ℕ) (test : ℕ → Bool) → anyBelow n test ≡ true → (i : ℕ) × (i < n) × (test i ≡ true)
@@ -114,10 +141,10 @@ module _ (d : Desk) (k : ℕ) where
   abbrev digitAt : ℕ → Bool
   digitAt i = badDigit (getD (blockAt (d .words) (wordOf d k 28)) (4 * i + 1) 0) || badDigit (getD (blockAt (d .words) (wordOf d k 28)) (4 * i + 2) 0)
 
-  digit-at : (i : ℕ) → i < 8 → Decides (digitAt i) ((badDigit (tableWord d k (4 * i + 1)) ≡ true) ⊎ (badDigit (tableWord d k (4 * i + 2)) ≡ true))
-  digit-at i h = rw (of-table (4 * i + 1) (omega arith), of-table (4 * i + 2) (omega arith)) (is-or _ _ (is-true _) (is-true _))
+  digit-at : (i : ℕ) → i < 8 → Decides (digitAt i) (HighDigit (tableWord d k (4 * i + 1)) ⊎ HighDigit (tableWord d k (4 * i + 2)))
+  digit-at i h = rw (of-table (4 * i + 1) (omega arith), of-table (4 * i + 2) (omega arith)) (is-or _ _ (is-digit _) (is-digit _))
 
-  table-digits : Decides (readingAt d k .program .baddigit) (InTable d k (λ i. (badDigit (tableWord d k (4 * i + 1)) ≡ true) ⊎ (badDigit (tableWord d k (4 * i + 2)) ≡ true)))
+  table-digits : Decides (readingAt d k .program .baddigit) (InTable d k (λ i. HighDigit (tableWord d k (4 * i + 1)) ⊎ HighDigit (tableWord d k (4 * i + 2))))
   unfolding readingOf badDigitIn
   table-digits = rw (program-tested (d .words) (wordOf d k 28) _ _ _ .0) (in-table _ digitAt digit-at)
 
@@ -130,7 +157,7 @@ module _ (d : Desk) (k : ℕ) where
       rw word-digits
       (one-of
       (badDigit (wordOf d k 7) ∷ badDigit (wordOf d k 8) ∷ badDigit (wordOf d k 9) ∷ badDigit (wordOf d k 10) ∷ readingAt d k .program .baddigit ∷ [])
-      (wrongDigit d k) (is-true _, (is-true _, (is-true _, (is-true _, (table-digits, tt))))))
+      (wrongDigit d k) (is-digit _ also is-digit _ also is-digit _ also is-digit _ also table-digits also no-more))
 
   -- ---- N8
 
@@ -154,6 +181,10 @@ module _ (d : Desk) (k : ℕ) where
   unfolding readingOf settingsOf
   hysteresis = at d k 18 (lit< tt)
 
+  watched : Decides ((bit 12 (wordOf d k 0) || bit 13 (wordOf d k 0)) && (ltb (wordOf d k 18) 1 || ltb 200 (wordOf d k 18)))
+      (((bit 12 (wordOf d k 0) ≡ true) ⊎ (bit 13 (wordOf d k 0) ≡ true)) × ((wordOf d k 18 < 1) ⊎ (200 < wordOf d k 18)))
+  watched = is-both _ _ (is-or _ _ (is-true _) (is-true _)) (λ _. is-or _ _ (is-less _ _) (is-less _ _))
+
   modes : Decides (badModes (readingAt d k .settings .mode1) (readingAt d k .settings .mode2 .unused) (readingAt d k .settings .alarms .hysteresis) || readingAt d k .program .highend)
       (OneOf (wrongMode d k))
   modes =
@@ -165,30 +196,26 @@ module _ (d : Desk) (k : ℕ) where
       ∷ ((bit 12 (wordOf d k 0) || bit 13 (wordOf d k 0)) && (ltb (wordOf d k 18) 1 || ltb 200 (wordOf d k 18)))
       ∷ readingAt d k .program .highend
       ∷ [])
-      (wrongMode d k) (
-        is-both _ _ (is-true _) (λ _. is-true _),
-        (
-          is-true _,
-          (
-            is-true _,
-            (
-              is-both _ _ (is-or _ _ (is-true _) (is-true _)) (λ _. is-or _ _ (is-less _ _) (is-less _ _)),
-              (table-ends, tt),
-            ),
-          ),
-        ),
-      ))
+      (wrongMode d k)
+      (is-both _ _ (is-true _) (λ _. is-true _)
+      also is-true _
+      also is-stray (wordOf d k 1)
+      also watched
+      also table-ends
+      also no-more))
 
   -- ---- N12 and N13
 
   times : Decides (badTimes (readingAt d k .settings .tuning)) (OneOf (wrongTime d k))
-  unfolding readingOf settingsOf tuningOf
-  times = rw (at d k 7 (lit< tt), at d k 9 (lit< tt)) (one-of (ltb (bcd (wordOf d k 7)) 5 ∷ eqb (bcd (wordOf d k 9)) 0 ∷ []) (wrongTime d k) (is-less _ _, (is-same _ _, tt)))
+  unfolding readingOf settingsOf tuningOf bcd
+  times =
+      rw (at d k 7 (lit< tt), at d k 9 (lit< tt))
+      (one-of (ltb (hundredths (wordOf d k 7)) 5 ∷ eqb (hundredths (wordOf d k 9)) 0 ∷ []) (wrongTime d k) (is-less _ _ also is-same _ _ also no-more))
 
   limits : Decides (badLimits (readingAt d k .settings .limits) (outputFull d k)) (OneOf (wrongLimit d k))
-  limits = rw (low d k, high d k) (one-of (ltb (wordOf d k 25) (wordOf d k 24) ∷ ltb (outputFull d k) (wordOf d k 25) ∷ []) (wrongLimit d k) (is-less _ _, (is-less _ _, tt)))
+  limits = rw (low d k, high d k) (one-of (ltb (wordOf d k 25) (wordOf d k 24) ∷ ltb (outputFull d k) (wordOf d k 25) ∷ []) (wrongLimit d k) (is-less _ _ also is-less _ _ also no-more))
 
-  -- ---- N14
+  -- ---- the word that is followed
 
   pointer : readingAt d k .settings .pointer ≡ wordOf d k 26
   unfolding readingOf settingsOf
@@ -198,15 +225,61 @@ module _ (d : Desk) (k : ℕ) where
   unfolding readingOf remoteOf settingsOf
   remote on = rw (on, at d k 26 (lit< tt))
 
+-- ---- the mode that the sample takes
+
+-- by the requests, and where none is on by the mode that is carried
+by-requests : (manual automatic cascade : Bool) (former : Mode) (P : Type 0) → Decides (isCascade former) P
+    → Decides (isCascade (cond manual Manual (cond automatic Automatic (cond cascade Cascade former)))) ((manual ≡ false) × (automatic ≡ false) × ((cascade ≡ true) ⊎ P))
+by-requests true automatic cascade former P d = not-so (λ h. false≢true (sym (h .0)))
+by-requests false true cascade former P d = not-so (λ h. false≢true (sym (h .1)))
+by-requests false false true former P d = so (refl, refl, inl refl)
+by-requests false false false former P d = record { yes = λ e. (refl, refl, inr (d .yes e)); no = λ e h. d .no e (only (h .2)) }
+  where
+    only : (false ≡ true) ⊎ P → P
+    only (inl z) = absurd (false≢true z)
+    only (inr p) = p
+
+-- H1: a number in its row is one of the three modes
+of-number : (n : ℤ) → pos 0 ≤ℤ n → n ≤ℤ pos 2 → Decides (isAutomatic (modeFrom n)) (n ≡ pos 1) × Decides (isCascade (modeFrom n)) (n ≡ pos 2)
+of-number (pos zero) low high = (not-so (λ e. omega (arith, linear, e)), not-so (λ e. omega (arith, linear, e)))
+of-number (pos (suc zero)) low high = (so refl, not-so (λ e. omega (arith, linear, e)))
+of-number (pos (suc (suc zero))) low high = (not-so (λ e. omega (arith, linear, e)), so refl)
+of-number (pos (suc (suc (suc n)))) low high = absurd (omega (arith, linear))
+of-number (negsuc n) low high = absurd (omega (arith, linear))
+
+module _ (d : Desk) (k : ℕ) (range : outOfRange (numbersAt (d .numbers) (slotOf k)) ≡ false) where
+  carried : Decides (isAutomatic (recordAt (d .numbers) k .state .mode)) (modeCarried d k ≡ pos 1) × Decides (isCascade (recordAt (d .numbers) k .state .mode)) (modeCarried d k ≡ pos 2)
+  unfolding recordFrom
+  carried = let row = rows-in (numbersAt (d .numbers) (slotOf k)) range .mode in of-number (modeCarried d k) (row .0) (row .1)
+
+  in-cascade : Decides (isCascade (readingAt d k .mode)) (InCascade d k)
+  unfolding readingOf settingsOf modeAfter
+  in-cascade =
+      rw (at d k 0 (lit< tt))
+      (by-requests (bit 0 (wordOf d k 0)) (bit 1 (wordOf d k 0)) (bit 2 (wordOf d k 0)) (recordAt (d .numbers) k .state .mode) (modeCarried d k ≡ pos 2) (carried .1))
+
+  -- N14
+
   setpoint : Decides
       (badSetpoint (isCascade (readingAt d k .mode)) (inputFull d k) (readingAt d k .settings .stored .setpoint) (readingAt d k .settings .pointer) (readingAt d k .remote))
       (OneOf (wrongSetpoint d k))
   setpoint =
       let cascade = isCascade (readingAt d k .mode) in
       let far = readingAt d k .remote in
-      rw (setpoint2 d k, pointer)
+      rw (setpoint2 d k, pointer d k)
       (one-of ((not cascade && ltb (inputFull d k) (wordOf d k 2)) ∷ (cascade && (ltb 1023 (wordOf d k 26) || ltb (inputFull d k) far)) ∷ []) (wrongSetpoint d k)
-      (is-both _ _ (is-false cascade) (λ _. is-less _ _), (is-both _ _ (is-true cascade) (λ on. is-or _ _ (is-less _ _) (rw (remote on) (is-less _ _))), tt)))
+      (is-both _ _ (is-not cascade in-cascade) (λ _. is-less _ _)
+      also is-both _ _ in-cascade (λ on. is-or _ _ (is-less _ _) (rw (remote d k on) (is-less _ _)))
+      also no-more))
+
+  -- A13, N11
+
+  one : Decides (not (readingAt d k .settings .mode1 .bumpless)) (bit 3 (wordOf d k 0) ≡ false)
+  one = rw (bits d k) (is-false _)
+
+  handing-over : Decides (transferAt d k) (Transferring d k)
+  unfolding readingOf transfers
+  handing-over = in-words (λ h. (h .0 .0, h .0 .1, h .1)) (λ h. ((h .0, h .1), h .2)) (is-both _ _ (is-both _ _ (carried .0) (λ _. in-cascade)) (λ _. one))
 
 -- ---- the order
 
@@ -216,7 +289,7 @@ not-both false b = refl
 
 -- one cause alone
 single : {b : Bool} {P : Type 0} → Decides b P → Decides b (OneOf (P ∷ []))
-single {b} {P} d = one-of-after [] [] tt b P d
+single {b} {P} d = one-of-after [] [] no-more b P d
 
 module _ (d : Desk) (k raw : ℕ) where
   lengths : Decides (not (fittingOf d)) (OneOf ((length (d .words) ≡ 1024 → ⊥) ∷ (length (d .numbers) ≡ 224 → ⊥) ∷ []))
@@ -224,56 +297,54 @@ module _ (d : Desk) (k raw : ℕ) where
   lengths =
       subst (λ (b : Bool). Decides b (OneOf ((length (d .words) ≡ 1024 → ⊥) ∷ (length (d .numbers) ≡ 224 → ⊥) ∷ []))) (not-both (eqb (length (d .words)) 1024) (eqb (length (d .numbers)) 224))
       (one-of (not (eqb (length (d .words)) 1024) ∷ not (eqb (length (d .numbers)) 224) ∷ []) ((length (d .words) ≡ 1024 → ⊥) ∷ (length (d .numbers) ≡ 224 → ⊥) ∷ [])
-      (is-not _ (is-same _ _), (is-not _ (is-same _ _), tt)))
+      (is-not _ (is-same _ _) also is-not _ (is-same _ _) also no-more))
 
   loops : Decides (noLoop k) (OneOf ((k < 1) ∷ (16 < k) ∷ []))
   unfolding noLoop
-  loops = one-of (ltb k 1 ∷ ltb 16 k ∷ []) ((k < 1) ∷ (16 < k) ∷ []) (is-less _ _, (is-less _ _, tt))
+  loops = one-of (ltb k 1 ∷ ltb 16 k ∷ []) ((k < 1) ∷ (16 < k) ∷ []) (is-less _ _ also is-less _ _ also no-more)
 
-  transfer : Decides (transferAt d k && badMajor (read d k raw) (pvAt d k raw)) ((transferAt d k ≡ true) × (ToMajor d k raw → ⊥))
-  transfer = record {
-    yes = λ e. (and-true _ _ e .0, λ m. false≢true (sym (passing-major d k raw (λ _. m)) ∙ e));
-    no = λ e h. false≢true (sym e ∙ no-major d k raw (h .0) (h .1));
-  }
+  -- a loop that receives p is the major one, and passes N11
+  received : (j : ℕ) → Receives d k j (pvAt d k raw) → ToMajor d k raw
+  received j r =
+      let e : majorAt d k ≡ j = ap (majorOf k) (pointer d k ∙ r .output) ∙ major-found k j (r .first) (r .last) (r .other) in
+      record { major = λ z. omega (arith, e, z, r .first); low = rw e (r .low); high = rw e (r .high) }
 
-  tested : TestsAll (sampleCases d k raw) (sampleRows d k raw)
-  tested = (
-    refl,
-    lengths,
-    (
-      refl,
-      loops,
-      (
-        refl,
-        single (is-true _),
-        (
-          refl,
-          digits d k,
-          (
-            refl,
-            modes d k,
-            (
-              refl,
-              times d k,
-              (
-                refl,
-                limits d k,
-                (
-                  refl,
-                  setpoint d k,
-                  (
-                    refl,
-                    single (is-less _ _),
-                    (refl, single transfer, tt),
-                  ),
-                ),
-              ),
-            ),
-          ),
-        ),
-      ),
-    ),
-  )
+  -- and the major one receives it
+  receives : ToMajor d k raw → Receives d k (majorAt d k) (pvAt d k raw)
+  receives m =
+      let j = major-is k (readingAt d k .settings .pointer) (m .major) in
+      record { first = j .above; last = j .below; other = j .other; output = sym (pointer d k) ∙ j .output; low = m .low; high = m .high }
+
+  transfer : outOfRange (numbersAt (d .numbers) (slotOf k)) ≡ false
+      → Decides (transferAt d k && badMajor (read d k raw) (pvAt d k raw)) (Transferring d k × ((j : ℕ) → Receives d k j (pvAt d k raw) → ⊥))
+  transfer range =
+      is-both (transferAt d k) (badMajor (read d k raw) (pvAt d k raw)) (handing-over d k range) (λ on. record {
+        yes = λ e j r. false≢true (sym (rw on at (passing-major d k raw (λ _. received j r))) ∙ e);
+        no = λ e none. none (majorAt d k) (receives (to-major d k raw (major-good (read d k raw) (pvAt d k raw) e)));
+      })
+
+  -- A1
+
+  root : readingAt d k .settings .mode1 .root ≡ bit 6 (wordOf d k 0)
+  root = rw (bits d k)
+
+  bare : bit 6 (wordOf d k 0) ≡ false → pvAt d k raw ≡ raw
+  unfolding pvOf
+  bare off = rw (root, off)
+
+  rooted : bit 6 (wordOf d k 0) ≡ true → raw ≤ inputFull d k → Nearest (raw * inputFull d k) (pvAt d k raw)
+  unfolding pvOf
+  rooted on h =
+      let c = recordAt (d .numbers) k .state in
+      let most = input-scale (d .words) k (c .mode) (c .profile .segment) .high in
+      let l : raw ≤ 65535 = omega (arith, h, most) in
+      rw (root, on) (root-exact (raw * inputFull d k) (omega (arith, mul-le-mul l most)))
+
+  tested : Tests (sampleCases d k raw) (sampleRows d k raw)
+  tested =
+      tests refl lengths (λ _. tests refl loops (λ _. tests refl (single (is-true _)) (λ range.
+      tests refl (digits d k) (λ _. tests refl (modes d k) (λ _. tests refl (times d k) (λ _. tests refl (limits d k) (λ _.
+      tests refl (setpoint d k range) (λ _. tests refl (single (is-less (inputFull d k) raw)) (λ _. tests refl (single (transfer range)) (λ _. done))))))))))
 
   first : FirstIn (sampleRows d k raw) (numberOf (sampleAnswer d k raw))
   unfolding sampleAnswer
@@ -328,6 +399,7 @@ pub ordered : Ordered
 ordered = record {
   samples = first;
   alone = λ d k raw m n. first-alone (sampleRows d k raw) m n;
+  pv = λ d k raw. (bare d k raw, rooted d k raw);
   forecasts = λ d k samples. subst (FirstIn (sampleRows d k 0)) (sym (forecasts d k samples .0)) (first d k 0);
   files = in-file;
   renumbered = renumbered;

@@ -35,7 +35,7 @@ pub record Transferred : Type 0 where
   pub inside : (d : Desk) (k raw : ℕ) → numberOf (sampleAnswer d k raw) ≡ 0 → transferAt d k ≡ true → let base = baseOf (majorAt d k) in
       (getD (d .words) (base + 24) 0 ≤ getD (sampleLeft d k raw .words) (base + 5) 0)
       × (getD (sampleLeft d k raw .words) (base + 5) 0 ≤ getD (d .words) (base + 25) 0)
-  -- A13: the minor loop's setpoint and PV are both p, and its error is 0. A3: in Cascade without a transfer the setpoint is the word pointed to, and N8
+  -- A13: the minor loop's setpoint and PV are both p, and its error is 0. A3: in Cascade without a transfer the setpoint is the word pointed to, and N14
   -- tests that word as it stood, at a transfer too
   pub settles : (d : Desk) (k raw : ℕ) → transferAt d k ≡ true
       → (stepAt d k raw .written .setpoint ≡ pvAt d k raw) × (stepAt d k raw .written .pv ≡ pvAt d k raw) × (stepAt d k raw .carried .past .error ≡ pos 0)

@@ -17,6 +17,12 @@ in-words to from d = record { yes = λ e. to (d .yes e); no = λ e q. d .no e (f
 
 -- ---- single tests
 
+pub so : {P : Type 0} → P → Decides true P
+so p = record { yes = λ _. p; no = λ e _. false≢true (sym e) }
+
+pub not-so : {P : Type 0} → (P → ⊥) → Decides false P
+not-so none = record { yes = λ e. absurd (false≢true e); no = λ _ p. none p }
+
 pub is-true : (b : Bool) → Decides b (b ≡ true)
 is-true b = record { yes = λ e. e; no = λ e h. false≢true (sym e ∙ h) }
 
@@ -35,7 +41,7 @@ pub is-not : (a : Bool) {P : Type 0} → Decides a P → Decides (not a) (P → 
 is-not a d = record { yes = λ e. d .no (not-true a e); no = λ e none. none (d .yes (not-false a e)) }
 
 pub is-or : (a b : Bool) {P Q : Type 0} → Decides a P → Decides b Q → Decides (a || b) (P ⊎ Q)
-is-or true b p q = record { yes = λ _. inl (p .yes refl); no = λ e _. false≢true (sym e) }
+is-or true b p q = so (inl (p .yes refl))
 is-or false b {P} {Q} p q = record { yes = λ e. inr (q .yes e); no = none }
   where
     none : b ≡ false → P ⊎ Q → ⊥
@@ -45,4 +51,4 @@ is-or false b {P} {Q} p q = record { yes = λ e. inr (q .yes e); no = none }
 -- the second is asked only where the first holds
 pub is-both : (a b : Bool) {P Q : Type 0} → Decides a P → (a ≡ true → Decides b Q) → Decides (a && b) (P × Q)
 is-both true b p q = record { yes = λ e. (p .yes refl, q refl .yes e); no = λ e h. q refl .no e (h .1) }
-is-both false b p q = record { yes = λ e. absurd (false≢true e); no = λ _ h. p .no refl (h .0) }
+is-both false b p q = not-so (λ h. p .no refl (h .0))

@@ -97,21 +97,21 @@ first-of-kind P none (x ∷ l) h = go (x .holds) (first-of-kind P none l (h .1))
 
 -- ---- the first that holds is reported
 
--- the cases test the causes of the rows, in their order, and have their numbers
-abbrev pub TestsAll : List Case → List Row → Type 0
-TestsAll [] [] = Unit {0}
-TestsAll [] (row ∷ rows) = ⊥
-TestsAll (x ∷ l) [] = ⊥
-TestsAll (x ∷ l) (row ∷ rows) = (numberOfRefusal (x .why) ≡ row .number) × Decides (x .holds) (OneOf (row .causes)) × TestsAll l rows
+-- the cases test the causes of the rows, in their order, and have their numbers; each may rest on those before it having failed
+pub data Tests : List Case → List Row → Type 1 where
+  done : Tests [] []
+  tests : {x : Case} {l : List Case} {row : Row} {rows : List Row} → numberOfRefusal (x .why) ≡ row .number → Decides (x .holds) (OneOf (row .causes))
+      → (x .holds ≡ false → Tests l rows) → Tests (x ∷ l) (row ∷ rows)
 
 -- O4: the answer is then the number of the first row of which a cause holds
-pub first-reported : (l : List Case) (rows : List Row) → TestsAll l rows → FirstIn rows (numberOf (firstOf l))
-first-reported [] [] h = refl
-first-reported (x ∷ l) (row ∷ rows) h = go (x .holds) (h .1) (first-reported l rows (h .2))
+pub first-reported : (l : List Case) (rows : List Row) → Tests l rows → FirstIn rows (numberOf (firstOf l))
+first-reported [] [] done = refl
+first-reported (x ∷ l) (row ∷ rows) (tests e d rest) = go (x .holds) d (λ f. first-reported l rows (rest f))
   where
-    go : (b : Bool) → Decides b (OneOf (row .causes)) → FirstIn rows (numberOf (firstOf l)) → FirstIn (row ∷ rows) (numberOf (cond b (Refused (x .why)) (firstOf l)))
-    go true d rest = inl (d .yes refl, h .0)
-    go false d rest = inr (d .no refl, rest)
+    go : (b : Bool) → Decides b (OneOf (row .causes)) → (b ≡ false → FirstIn rows (numberOf (firstOf l)))
+        → FirstIn (row ∷ rows) (numberOf (cond b (Refused (x .why)) (firstOf l)))
+    go true d rest = inl (d .yes refl, e)
+    go false d rest = inr (d .no refl, rest refl)
 
 -- and there is no other
 pub first-alone : (rows : List Row) (m n : ℕ) → FirstIn rows m → FirstIn rows n → m ≡ n
