@@ -286,7 +286,7 @@ enum kexbardi_refusal {
     KEXBARDI_STORE = 6,    /* store: the address is above 1,023, or is word 3, 4, 6 or 29 of a loop. Store elsewhere */
     KEXBARDI_DIGIT = 7,    /* sample, forecast: word 7, 8, 9 or 10, period, gain, reset and rate, has a digit above 9; or,
                               with KEXBARDI_M1_PROFILE on and a good address in word 28, a slope or duration of the table.
-                              Write BCD, or take the profile's bit off */
+                              Write BCD, or take the profile's bit off, which ends a running profile */
     KEXBARDI_SETTING = 8,  /* sample, forecast: word 0 has KEXBARDI_M1_VELOCITY with KEXBARDI_M1_BUMPLESS_II, or bit 9. Take
                               one of the two off, or bit 9.
                               Word 1 has a bit other than 1, 4, 8, 9, 10, 12 and 13, or bit 12 or 13 without
@@ -294,14 +294,15 @@ enum kexbardi_refusal {
                               Word 18, the hysteresis, is not 1 to 200 while KEXBARDI_M1_PV_ALARMS or
                               KEXBARDI_M1_DEVIATION_ALARMS is on. Set it, or take the alarms off.
                               With KEXBARDI_M1_PROFILE on and a good address in word 28, a ramp of the table ends above the
-                              input's full scale. Lower that end, or take the profile's bit off */
+                              input's full scale. Lower that end, or give word 1 the input's format, or take the
+                              profile's bit off, which ends a running profile */
     KEXBARDI_ABOVE = 9,    /* sample: the raw PV is above the input's full scale, by word 1. Bring transmitter and word 1
                               together */
     KEXBARDI_ROOM = 10,    /* kexbardi_setup: the room is shorter than the file. Lend KEXBARDI_SETUP_ROOM bytes */
     KEXBARDI_TRANSFER = 11, /* sample, forecast: from Automatic to Cascade with Bumpless I, and word 26, the pointer, is no
                               other loop's output word, or the PV (of a forecast: 0) is below word 24 or above word 25
-                              of that loop. Point there; bring the PV inside those limits, or widen them; or go by way
-                              of Manual */
+                              of that loop. Point there; bring the PV inside those limits, or widen them, up to that
+                              loop's own full scale; or go by way of Manual */
     KEXBARDI_SETTING_TIMES = 12,   /* sample, forecast: word 7, the period, is below 0.05 s, or word 9, the reset time, is 0.
                               Set both: at reset they are 0. For no reset action store KEXBARDI_RESET_OFF */
     KEXBARDI_SETTING_LIMITS = 13,  /* sample, forecast: word 24, the low output limit, is above word 25, the high one, or
@@ -309,9 +310,10 @@ enum kexbardi_refusal {
                               word 1 the output's format */
     KEXBARDI_SETTING_SETPOINT = 14 /* sample, forecast: outside Cascade word 2, the setpoint, is above
                               KEXBARDI_FULL_SCALE of word 1. Lower it. In Cascade word 26, the pointer, is above 1,023, or
-                              the word that it names is above that full scale. Point elsewhere, or bring that word down.
-                              Or give word 1 the input's format. A request that waits counts already: with Cascade
-                              requested it is Cascade here, whatever the status shows */
+                              the word that it names is above that full scale. Point elsewhere, or bring that word down,
+                              of a loop's output by that loop's high output limit; or choose another mode. Or give word 1
+                              the input's format. A request that waits counts already: with Cascade requested it is
+                              Cascade here, whatever the status shows */
 };
 
 /* ---- the functions (Q1 to Q13) */

@@ -34,7 +34,7 @@ use Rattle.table.specs.Programs.Laws.{none-below, good-address, address-good, p
 use Rattle.table.specs.Reading.{modeAfter, remoteOf, readingOf}
 use Rattle.table.specs.Reading.Laws.{input-scale}
 use Rattle.carried.specs.Layout.{modeFrom, recordFrom, slotOf, outOfRange, numbersAt, recordAt}
-use Rattle.carried.specs.Layout.Laws.{rows-in}
+use Rattle.carried.specs.Layout.Laws.{Rows, rows-in, in-rows}
 use Rattle.engine.specs.Sensing.{pvOf}
 use Rattle.judging.specs.Judging.{badModes, badTimes, badLimits, badSetpoint, badMajor}
 use Rattle.judging.specs.Judging.Laws.{major-good}
@@ -299,6 +299,11 @@ module _ (d : Desk) (k raw : ℕ) where
       (one-of (not (eqb (length (d .words)) 1024) ∷ not (eqb (length (d .numbers)) 224) ∷ []) ((length (d .words) ≡ 1024 → ⊥) ∷ (length (d .numbers) ≡ 224 → ⊥) ∷ [])
       (is-not _ (is-same _ _) also is-not _ (is-same _ _) also no-more))
 
+  in-rows-or-not : Decides (outOfRange (numbersAt (d .numbers) (slotOf k))) (Rows (numbersAt (d .numbers) (slotOf k)) → ⊥)
+  in-rows-or-not =
+      let ns = numbersAt (d .numbers) (slotOf k) in
+      record { yes = λ e rows. false≢true (sym (in-rows ns rows) ∙ e); no = λ e none. none (rows-in ns e) }
+
   loops : Decides (noLoop k) (OneOf ((k < 1) ∷ (16 < k) ∷ []))
   unfolding noLoop
   loops = one-of (ltb k 1 ∷ ltb 16 k ∷ []) ((k < 1) ∷ (16 < k) ∷ []) (is-less _ _ also is-less _ _ also no-more)
@@ -342,7 +347,7 @@ module _ (d : Desk) (k raw : ℕ) where
 
   tested : Tests (sampleCases d k raw) (sampleRows d k raw)
   tested =
-      tests refl lengths (λ _. tests refl loops (λ _. tests refl (single (is-true _)) (λ range.
+      tests refl lengths (λ _. tests refl loops (λ _. tests refl (single in-rows-or-not) (λ range.
       tests refl (digits d k) (λ _. tests refl (modes d k) (λ _. tests refl (times d k) (λ _. tests refl (limits d k) (λ _.
       tests refl (setpoint d k range) (λ _. tests refl (single (is-less (inputFull d k) raw)) (λ _. tests refl (single (transfer range)) (λ _. done))))))))))
 

@@ -18,6 +18,8 @@ places : OfPlaces
 places = record {
   word = λ file at. refl;
   base = λ k. refl;
+  bits = λ i w. refl;
+  records = λ file. (refl, refl);
   block = λ ws at. refl;
   counts = (refl, refl);
   slot = λ k. refl;

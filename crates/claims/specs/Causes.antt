@@ -18,7 +18,8 @@ use Rattle.table.specs.declared.reading.Reading.{Reading}
 use Rattle.table.specs.Words.{bit, baseOf}
 use Rattle.table.specs.Modes.{isCascade}
 use Rattle.table.specs.Transfers.{majorIn}
-use Rattle.carried.specs.Layout.{slotOf, outOfRange, numbersAt}
+use Rattle.carried.specs.Layout.{slotOf, numbersAt}
+use Rattle.carried.specs.Layout.Laws.{Rows}
 use Rattle.judging.specs.Judging.{badModes, badTimes, badLimits, badSetpoint, transferCases}
 use Rattle.engine.specs.Sensing.{pvIn}
 use Rattle.desk.specs.Desk.{Desk, fittingOf, memoryCases, loopCases, readingAt, sampleAnswer, forecastAt}
@@ -132,7 +133,7 @@ abbrev pub sampleRows : Desk → ℕ → ℕ → List Row
 sampleRows d k raw =
     (5 when ((length (d .words) ≡ 1024 → ⊥) ∷ (length (d .numbers) ≡ 224 → ⊥) ∷ []))
     ∷ (4 when ((k < 1) ∷ (16 < k) ∷ []))
-    ∷ (5 when ((outOfRange (numbersAt (d .numbers) (slotOf k)) ≡ true) ∷ []))
+    ∷ (5 when ((Rows (numbersAt (d .numbers) (slotOf k)) → ⊥) ∷ []))
     ∷ (7 when wrongDigit d k)
     ∷ (8 when wrongMode d k)
     ∷ (12 when wrongTime d k)

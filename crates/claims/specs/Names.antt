@@ -1,7 +1,7 @@
 -- What the names in the demands stand for, an equation each, so that no definition between them and the rest can change unnoticed. Left to be
 -- read where they stand: a sample's steps A1 to A12 (`stepOf`), what it reads (`readingOf`), a record as numbers (`numbersOf`), the
 -- plain loop's sample (`plainAfter`), a forecast's count (`forecastOf`), and the text of a line.
-use Prim.Native.Nat.{ℕ, _+_, _-_, _*_, _≤_, _<_}
+use Prim.Native.Nat.{ℕ, _+_, _-_, _*_, _/_, _%_, _^_, _≤_, _<_}
 use mathlib.Core.Path.{_≡_}
 use mathlib.Core.Bool.{true, false, cond, _&&_}
 use mathlib.Core.List.{List, [], _∷_}
@@ -15,9 +15,9 @@ use Rattle.refusals.specs.declared.Answer.the-variants.{Refused as No}
 use Rattle.refusals.specs.Refusals.{numberOf}
 use Rattle.reader.specs.declared.Record.{Record}
 use Rattle.reader.specs.declared.Record.the-variants.{Store, Sample, Refused}
-use Rattle.reader.specs.File.{wordAt}
+use Rattle.reader.specs.File.{wordAt, recordsFrom, recordsOf, spansFrom, spansOf}
 use Rattle.table.specs.declared.reading.Reading.{Reading}
-use Rattle.table.specs.Words.{baseOf, blockAt}
+use Rattle.table.specs.Words.{bit, baseOf, blockAt}
 use Rattle.table.specs.Transfers.{majorOf}
 use Rattle.table.specs.Reading.{tableOf, readingOf}
 use Rattle.profile.specs.Forecasts.{forecastOf}
@@ -33,10 +33,12 @@ use Rattle.session.specs.Session.{begun as started}
 use Rattle.session.specs.Printed.{roomFor}
 use Rattle.claims.specs.Turns.{one, Turn, found, madeLeft, behind, behindAll, fedMade, fedAll}
 
--- L1, W1, H1, H4: places of a word in a file, of a loop's words and of its record
+-- L1, L8, W1, H1, H4: places of a word in a file, of a loop's words and of its record, and of a bit in a word; a file is read from its start
 pub record OfPlaces : Type 0 where
   pub word : (file : List ℕ) (at : ℕ) → wordAt file at ≡ getD file at 0 + 256 * getD file (at + 1) 0
+  pub records : (file : List ℕ) → (recordsOf file ≡ recordsFrom file 0) × (spansOf file ≡ spansFrom file 0)
   pub base : (k : ℕ) → baseOf k ≡ 32 * (k - 1)
+  pub bits : (i w : ℕ) → bit i w ≡ eqb (w / 2 ^ i % 2) 1
   pub block : (ws : List ℕ) (at : ℕ) → blockAt ws at ≡ take 32 (drop at ws)
   pub counts : (fieldCount ≡ 14) × (numberCount ≡ 224)
   pub slot : (k : ℕ) → slotOf k ≡ fieldCount * (k - 1)
