@@ -279,7 +279,7 @@ enum kexbardi_refusal {
     KEXBARDI_CUT = 1,      /* file: it ends inside a record, which is its last. Get the file again */
     KEXBARDI_KIND = 2,     /* file: a record of no kind, or of one that is unknown. Mend the program that made it */
     KEXBARDI_LENGTH = 3,   /* file: a record whose length its kind does not have. The same */
-    KEXBARDI_LOOP = 4,     /* no loop of that number. Loops are 1 to 16 */
+    KEXBARDI_LOOP = 4,     /* no loop of that number. Take one from 1 to 16 */
     KEXBARDI_MEMORY = 5,   /* the lent memory does not have its length; of kexbardi_print: the room is too short. Mend the
                               program. Or a number of the loop's record is out of range. Load another save, reset the
                               desk, or zero that record */
@@ -306,8 +306,8 @@ enum kexbardi_refusal {
     KEXBARDI_SETTING_TIMES = 12,   /* sample, forecast: word 7, the period, is below 0.05 s, or word 9, the reset time, is 0.
                               Set both: at reset they are 0. For no reset action store KEXBARDI_RESET_OFF */
     KEXBARDI_SETTING_LIMITS = 13,  /* sample, forecast: word 24, the low output limit, is above word 25, the high one, or
-                              word 25 above KEXBARDI_OUTPUT_FULL_SCALE of word 1. Bring them into this order, or give
-                              word 1 the output's format */
+                              word 25 above KEXBARDI_OUTPUT_FULL_SCALE of word 1. Bring the high one down to that, or
+                              give word 1 the output's format; then the low one down to the high one */
     KEXBARDI_SETTING_SETPOINT = 14 /* sample, forecast: outside Cascade word 2, the setpoint, is above
                               KEXBARDI_FULL_SCALE of word 1. Lower it. In Cascade word 26, the pointer, is above 1,023, or
                               the word that it names is above that full scale. Point elsewhere, or bring that word down,
