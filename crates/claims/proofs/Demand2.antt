@@ -6,7 +6,7 @@ use mathlib.Core.List.{List, [], _∷_, _++_}
 use mathlib.Core.Bool.{Bool, true, false, cond, _&&_}
 use lib.IntN.{ℤ, pos}
 use lib.ListN.{length, getD, set}
-use borrow.Author.Tests.{eq-eqb, ne-eqb, le-ltb, ltb-false}
+use borrow.Author.Tests.{eq-eqb, ne-eqb}
 use Rattle.refusals.specs.declared.Answer.{Answer}
 use Rattle.refusals.specs.declared.Answer.the-variants.{Accepted, Refused}
 use Rattle.refusals.specs.declared.Refusal.the-variants.{Record}
@@ -22,7 +22,7 @@ use Rattle.table.specs.Transfers.Laws.{major-local}
 use Rattle.table.specs.Reading.Laws.{numbered, reading-local}
 use Rattle.carried.specs.declared.record.Carried.{Carried}
 use Rattle.carried.specs.Layout.{slotOf, outOfRange, recordFrom, numbersOf, numbersAt, recordAt}
-use Rattle.judging.specs.Judging.{readingCases, badMajor, transferCases, Passed}
+use Rattle.judging.specs.Judging.{readingCases, badMajor, transferCases}
 use Rattle.judging.specs.Judging.Laws.{passed, passing}
 use Rattle.engine.specs.declared.stepping.Stepped.{Stepped}
 use Rattle.engine.specs.Sensing.{pvIn, setpointOf, targetOf, profiledOf, faultAfter, sensedOf}
@@ -46,13 +46,9 @@ use Rattle.claims.proofs.Turns.{unfit-behind, record-found, record-behi
 
 acceptable : (d : Desk) (k raw : ℕ) → Acceptable d k raw → numberOf (sampleAnswer d k raw) ≡ 0
 acceptable d k raw a =
-    let r = a .reading in
-    let above = le-ltb (readingAt d k .settings .mode2 .input .scale) raw (a .below) in
-    let p : Passed (readingAt d k) raw
-    = record { digit = r .digit; modes = r .modes; ends = r .ends; times = r .times; limits = r .limits; setpoint = r .setpoint; above = above } in
     let good = passing-major d k raw (a .transfer) in
     let e : sampleAnswer d k raw ≡ Accepted
-    = answer-ranged d k raw (a .memory) (a .loop .0) (a .loop .1) ∙ rw (a .carried) (judged-past (d .words) k (readingAt d k) raw (passing (readingAt d k) raw p) ∙ rw good) in
+    = answer-ranged d k raw (a .memory) (a .loop .0) (a .loop .1) ∙ rw (a .carried) (judged-past (d .words) k (readingAt d k) raw (passing (readingAt d k) raw (a .reading)) ∙ rw good) in
     ap numberOf e
 
 only-then : (d : Desk) (k raw : ℕ) → numberOf (sampleAnswer d k raw) ≡ 0 → Acceptable d k raw
@@ -63,13 +59,11 @@ only-then d k raw z =
     let q = accepted-rest (loopCases (d .numbers) k) (judgedCases (d .words) k (readingAt d k) raw) (p .1) in
     let j = accepted-rest (readingCases (readingAt d k) raw) (transferCases (transferAt d k) (read d k raw) (pvAt d k raw)) (q .1) in
     let loop = known-loop (d .numbers) k (q .0) in
-    let r = passed (readingAt d k) raw (j .0) in
     record {
       memory = fits d (p .0);
       loop = (loop .above, loop .below);
       carried = loop .range;
-      reading = record { digit = r .digit; modes = r .modes; ends = r .ends; times = r .times; limits = r .limits; setpoint = r .setpoint };
-      below = ltb-false _ _ (r .above);
+      reading = passed (readingAt d k) raw (j .0);
       transfer = λ on. to-major d k raw (sampled d k raw e .transfer on);
     }
 

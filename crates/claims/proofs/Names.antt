@@ -9,7 +9,7 @@ use Rattle.carried.specs.Layout.Laws.{read-back, rows-in, in-rows}
 use Rattle.plain.specs.Plain.{begun, plainMarked}
 use Rattle.desk.specs.Desk.{Desk, remainingOf}
 use Rattle.desk.specs.Desk.Laws.{reset-numbers}
-use Rattle.desk.specs.Lists.{store, sample, answerTo, deskAfter, deskBehind, Plains, sampledAll, fedBy, fed, plainsBehind}
+use Rattle.desk.specs.Lists.{store, answerTo, deskAfter, deskBehind, Plains, sampledAll, fedBy, fed, plainsBehind}
 use Rattle.session.specs.Session.{runOf, callsOf}
 use Rattle.claims.specs.Turns.{madeLeft, behindAll, fedMade, fedAll}
 use Rattle.claims.specs.Names.{OfPlaces, OfCalls, OfPlains, Names}

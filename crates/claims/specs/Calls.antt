@@ -1,7 +1,7 @@
 -- What every direct call (Q1 to Q4, Q11, Q12) answers and leaves, on memory of any lengths.
 use Prim.Native.Nat.{ℕ, _+_, _%_, _≤_, _<_}
 use mathlib.Core.Path.{_≡_}
-use mathlib.Core.Bool.{Bool, true, false, _||_}
+use mathlib.Core.Bool.{Bool, true, false}
 use mathlib.Core.List.{List}
 use lib.IntN.{ℤ, pos}
 use lib.ListN.{length, getD, set, replicate}
@@ -9,12 +9,9 @@ use lib.Seq.{sets}
 use Rattle.refusals.specs.declared.Answer.{Answer}
 use Rattle.refusals.specs.declared.Answer.the-variants.{Accepted}
 use Rattle.refusals.specs.Refusals.{numberOf}
-use Rattle.table.specs.declared.reading.Reading.{Reading}
 use Rattle.table.specs.Words.{baseOf}
-use Rattle.table.specs.Modes.{isCascade}
 use Rattle.table.specs.Transfers.{majorOf}
 use Rattle.carried.specs.Layout.{fieldCount, numberCount, slotOf, numbersAt, recordAt, outOfRange}
-use Rattle.judging.specs.Judging.{badModes, badTimes, badLimits, badSetpoint}
 use Rattle.engine.specs.Sensing.{pvIn}
 use Rattle.desk.specs.Desk.{Desk, lent, fittingOf, resetAnswer, resetLeft, storeAnswer, storeLeft, readingAt, sampleAnswer, sampleLeft, remainingOf, forecastAt, fieldsAnswer, fieldsLeft}
 use Rattle.desk.specs.Lists.{Call, answerTo}
@@ -33,15 +30,6 @@ pub data Reserved : ℕ → Type 0 where
   bias : Reserved 4
   status : Reserved 6
   profile : Reserved 29
-
--- what a sample reads passes N7, N8, N12, N13 and N14
-pub record Settled (r : Reading) : Type 0 where
-  pub digit : (r .settings .baddigit || r .program .baddigit) ≡ false
-  pub modes : badModes (r .settings .mode1) (r .settings .mode2 .unused) (r .settings .alarms .hysteresis) ≡ false
-  pub ends : r .program .highend ≡ false
-  pub times : badTimes (r .settings .tuning) ≡ false
-  pub limits : badLimits (r .settings .limits) (r .settings .mode2 .output .scale) ≡ false
-  pub setpoint : badSetpoint (isCascade (r .mode)) (r .settings .mode2 .input .scale) (r .settings .stored .setpoint) (r .settings .pointer) (r .remote) ≡ false
 
 -- A13: whether a sample of loop k is a transfer; which loop is the major one if it is, 0 where there is none; and p
 abbrev pub transferAt : Desk → ℕ → Bool

@@ -14,18 +14,18 @@ use Rattle.table.specs.Modes.{isCascade}
 use Rattle.table.specs.Transfers.{majorOf}
 use Rattle.table.specs.Reading.{tableOf}
 use Rattle.carried.specs.Layout.{slotOf, outOfRange, numbersOf, numbersAt}
+use Rattle.judging.specs.Judging.{Passed}
 use Rattle.desk.specs.Desk.{Desk, fittingOf, readingAt, stepAt, sampleAnswer, sampleLeft, lineOf}
 use Rattle.kexbardi.specs.Interface.{lineLeft}
 use Rattle.claims.specs.Turns.{Turn, behindAll}
-use Rattle.claims.specs.Calls.{Settled, transferAt, majorAt, pvAt, ToMajor}
+use Rattle.claims.specs.Calls.{transferAt, majorAt, pvAt, ToMajor}
 
 -- O3: no refusal holds: the memory has its lengths, there is such a loop, its record is in range, and what is read passes N7 to N9 and N11 to N14
 pub record Acceptable (d : Desk) (k raw : ℕ) : Type 0 where
   pub memory : fittingOf d ≡ true
   pub loop : (1 ≤ k) × (k ≤ 16)
   pub carried : outOfRange (numbersAt (d .numbers) (slotOf k)) ≡ false
-  pub reading : Settled (readingAt d k)
-  pub below : raw ≤ readingAt d k .settings .mode2 .input .scale
+  pub reading : Passed (readingAt d k) raw
   pub transfer : transferAt d k ≡ true → ToMajor d k raw
 
 -- A12, A13: the address i is none of the eight words that a sample of loop k writes: 0, 2, 3, 4, 5, 6, 27 and 29; nor at a transfer the word pointed to
