@@ -5,14 +5,12 @@ use mathlib.Core.List.{List, [], _∷_}
 use lib.Dec.{ltb, eqb}
 use Rattle.numbers.specs.Distances.{apart}
 use Rattle.table.specs.declared.mode.Mode.{Mode}
-use Rattle.table.specs.declared.settings.Mode1.{Mode1}
-use Rattle.table.specs.declared.settings.AlarmLimits.{AlarmLimits}
-use Rattle.table.specs.declared.settings.OutputLimits.{OutputLimits}
+use Rattle.reading.specs.declared.settings.Mode1.{Mode1}
+use Rattle.reading.specs.declared.settings.AlarmLimits.{AlarmLimits}
+use Rattle.reading.specs.declared.settings.OutputLimits.{OutputLimits}
 use Rattle.table.specs.Words.{bit}
 use Rattle.table.specs.Modes.{isManual, isAutomatic, isCascade}
 use Rattle.alarms.specs.declared.status.Seen.{Seen}
-use Rattle.alarms.specs.declared.status.Levels.{Levels}
-use Rattle.alarms.specs.declared.status.Status.{Status}
 pub mod Laws
 
 -- ---- single alarms
@@ -36,6 +34,25 @@ abbrev pub atLimit : Bool → OutputLimits → ℕ → ℕ → ℕ → Bool
 atLimit manual limits output setpoint pv = not manual && (eqb output (limits .low) || eqb output (limits .high)) && not (eqb pv setpoint)
 
 -- ---- the twelve bits
+
+-- B2: bits 3 to 6
+pub record Levels : Type 0 where
+  pub lowlow : Bool
+  pub low : Bool
+  pub high : Bool
+  pub highhigh : Bool
+
+-- B1 to B7: bits 0 to 11
+pub record Status : Type 0 where
+  pub manual : Bool
+  pub automatic : Bool
+  pub cascade : Bool
+  pub levels : Levels
+  pub yellow : Bool
+  pub red : Bool
+  pub change : Bool
+  pub fault : Bool
+  pub saturated : Bool
 
 -- B2, B3: bits 3 to 6, where the PV is watched. `stored` is word 6 before the sample
 unfoldable pub levelsOf : Bool → AlarmLimits → ℕ → ℕ → Levels
@@ -68,9 +85,9 @@ abbrev pub number : Bool → ℕ
 number b = cond b 1 0
 
 -- B8: the word whose bits, lowest first, are those of a list, and 0 above them
-abbrev pub wordOf : List Bool → ℕ
-wordOf [] = 0
-wordOf (b ∷ l) = number b + 2 * wordOf l
+abbrev pub bitsWord : List Bool → ℕ
+bitsWord [] = 0
+bitsWord (b ∷ l) = number b + 2 * bitsWord l
 
 -- B1 to B7: bits 0 to 11, in this order
 abbrev pub bitsOf : Status → List Bool

@@ -4,7 +4,7 @@ use mathlib.Core.Path.{_≡_}
 use mathlib.Core.Bool.{Bool, cond}
 use Rattle.table.specs.declared.mode.Mode.{Mode}
 use Rattle.table.specs.declared.mode.Mode.the-variants.{Manual, Automatic, Cascade}
-use Rattle.table.specs.declared.settings.AlarmLimits.{AlarmLimits}
+use Rattle.reading.specs.declared.settings.AlarmLimits.{AlarmLimits}
 use Rattle.table.specs.Words.{bit}
 use Rattle.alarms.specs.Status.{highAlarm, lowAlarm}
 pub mod Laws

@@ -1,7 +1,7 @@
 // Single alarms, on numbers wide enough that no sum wraps.
-use table::AlarmLimits;
-use table::Mode1;
-use table::OutputLimits;
+use reading::AlarmLimits;
+use reading::Mode1;
+use reading::OutputLimits;
 ghost use mathlib.Core.Path.{_≡_};
 ghost use mathlib.Core.Bool.{cond};
 ghost use Rattle.alarms.specs.Status.{highAlarm, lowAlarm, unordered, atLimit};

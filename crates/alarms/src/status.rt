@@ -4,15 +4,15 @@ use crate::alarm::high_alarm;
 use crate::alarm::low_alarm;
 use crate::alarm::saturated;
 use numbers::distance;
-use table::AlarmLimits;
+use reading::AlarmLimits;
+use reading::Mode1;
+use reading::OutputLimits;
 use table::Mode;
-use table::Mode1;
-use table::OutputLimits;
 use table::is_manual;
 ghost use mathlib.Core.Path.{_≡_};
 ghost use mathlib.Core.Bool.{cond};
 ghost use Rattle.numbers.specs.Distances.{apart};
-ghost use Rattle.alarms.specs.Status.{wordOf, bitsOf, statusOf};
+ghost use Rattle.alarms.specs.Status.{bitsWord, bitsOf, statusOf};
 ghost use Rattle.alarms.specs.Sums.{Valued, flagOf, modeBit, levelBits, deviationBits};
 
 // What the status word tells of one sample.
@@ -22,27 +22,6 @@ pub struct Seen {
     pub last: u16, // the recorded last PV
     pub sampled: bool, // whether one was recorded: not at the first accepted sample
     pub output: u16, // word 5 as written
-}
-
-// Bits 3 to 6, as the contracts name them; no code makes one.
-pub struct Levels {
-    pub lowlow: bool,
-    pub low: bool,
-    pub high: bool,
-    pub highhigh: bool,
-}
-
-// Bits 0 to 11, likewise.
-pub struct Status {
-    pub manual: bool,
-    pub automatic: bool,
-    pub cascade: bool,
-    pub levels: Levels,
-    pub yellow: bool,
-    pub red: bool,
-    pub change: bool,
-    pub fault: bool,
-    pub saturated: bool,
 }
 
 // B1: bits 0 to 2.
@@ -103,7 +82,7 @@ pub fn status_word(
     stored: u16,
     seen: Seen,
 ) -> u16
-    ensures { λ r. ⌜ r ≡ wordOf (bitsOf (statusOf mode bits limits output stored seen)) ⌝ }
+    ensures { λ r. ⌜ r ≡ bitsWord (bitsOf (statusOf mode bits limits output stored seen)) ⌝ }
 {
     let manual = is_manual(mode);
     let levels = level_bits(bits.level, limits, stored, seen.pv);

@@ -1,11 +1,11 @@
 -- The carried record of a loop as numbers of 64 bits (H1): their ranges, one row a number, and the place of each loop's record in the lent
 -- buffer (H4).
-use Prim.Native.Nat.{ℕ, suc, _+_, _*_, _-_, _^_}
-use mathlib.Core.Bool.{Bool, true, false, cond, _||_}
+use Prim.Native.Nat.{ℕ, suc, _+_, _*_, _-_, _^_, _<_}
+use mathlib.Core.Bool.{Bool, true, cond, _||_}
 use mathlib.Core.List.{List, [], _∷_}
 use lib.ListN.{length, getD, set, take, drop}
 use lib.IntN.{ℤ, pos, negℤ, natAbs}
-use lib.Signed.{ltZ}
+use lib.Signed.{ltZ, _≤ℤ_}
 use Rattle.table.specs.declared.mode.Mode.{Mode}
 use Rattle.table.specs.declared.mode.Mode.the-variants.{Manual, Automatic, Cascade}
 use Rattle.table.specs.Words.{any}
@@ -60,6 +60,18 @@ rangeTests (r ∷ rs) ns i = outsideRow r (getD ns i (pos 0)) ∷ rangeTests rs 
 -- H5: a number of the record is out of range
 unfoldable pub outOfRange : List ℤ → Bool
 outOfRange ns = any (rangeTests ranges ns 0)
+
+-- a number stands in its row
+abbrev pub InRow : Range → ℤ → Type 0
+InRow r n = (r .low ≤ℤ n) × (n ≤ℤ r .high)
+
+-- H1: the row of the i-th number
+abbrev pub rowOf : ℕ → Range
+rowOf i = getD ranges i (pos 0 to pos 0)
+
+-- H5: each number of a record stands in its row
+abbrev pub Rows : List ℤ → Type 0
+Rows ns = (i : ℕ) → i < fieldCount → InRow (rowOf i) (getD ns i (pos 0))
 
 -- ---- a record as numbers
 
@@ -125,20 +137,6 @@ recordFrom ns =
       sampled = flagFrom (at 7);
     }
 
--- H3: at reset Manual, position form, no sample accepted, no profile, no mark, and all else 0
-unfoldable pub resetRecord : Carried
-resetRecord = record {
-  state = record {
-    mode = Manual;
-    velocity = false;
-    profile = record { segment = 0; hold = false; complete = false; fraction = 0; time = 0 };
-    mark = false;
-  };
-  drive = record { bias = pos 0; output = pos 0 };
-  past = record { last = 0; prior = 0; error = pos 0 };
-  sampled = false;
-}
-
 -- ---- the buffer: sixteen records, loop 1 first
 
 -- H4: how many numbers sixteen records have
@@ -154,8 +152,8 @@ abbrev pub numbersAt : List ℤ → ℕ → List ℤ
 numbersAt ns at = take fieldCount (drop at ns)
 
 -- H4: loop k's record
-abbrev pub recordAt : List ℤ → ℕ → Carried
-recordAt ns k = recordFrom (numbersAt ns (slotOf k))
+abbrev pub carriedAt : List ℤ → ℕ → Carried
+carriedAt ns k = recordFrom (numbersAt ns (slotOf k))
 
 -- ---- the mark of a transfer
 

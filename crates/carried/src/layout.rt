@@ -1,5 +1,6 @@
-// A carried record as numbers of 64 bits (H1), and its place in the lent buffer (H4). A new field is a place here, a
-// row of `ranges` and a line of `numbersOf` and `recordFrom` in the definitions.
+// A carried record as numbers of 64 bits (H1), and its place in the lent buffer (H4). A new field is a place, a row of
+// `LOWS` and `HIGHS` and a line of `record_of` and `numbers_of`; in the definitions a row of `ranges` and a line of
+// `numbersOf` and `recordFrom`.
 use crate::record::Carried;
 use crate::record::Past;
 use crate::record::State;
@@ -13,7 +14,7 @@ ghost use Prim.Native.Nat.{_+_, _≤_};
 ghost use lib.IntN.{pos};
 ghost use lib.ListN.{length};
 ghost use lib.Seq.{sets};
-ghost use Rattle.carried.specs.Layout.{modeNumber, flag, numbersOf, modeFrom, profileFrom, recordFrom, fieldCount, _to_, outsideRow, outOfRange, slotOf, numbersAt, markedAt};
+ghost use Rattle.carried.specs.Layout.{modeNumber, numbersOf, modeFrom, profileFrom, recordFrom, fieldCount, _to_, outsideRow, outOfRange, slotOf, numbersAt, markedAt};
 
 pub const FIELDS: usize = 14; // numbers of a record
 
@@ -48,26 +49,40 @@ const TIME: usize = 12;
 
 const MARK: usize = 13;
 
-// The ends of the ranges: a mode, a flag, a word, bias and output in units, and those of a profile.
-const CASCADE: i64 = 2;
+// H1: the rows of `ranges`: the lowest number of each field, and the highest.
+const LOWS: [i64; FIELDS] = [
+    0, // mode
+    -4503599627370496, // bias
+    0, // output
+    0, // last PV
+    0, // PV before
+    -65535, // error
+    0, // form
+    0, // sampled
+    0, // segment
+    0, // hold
+    0, // complete
+    0, // fraction
+    0, // time
+    0, // mark
+];
 
-const ON: i64 = 1;
-
-const WORD: i64 = 65535;
-
-const LEAST_ERROR: i64 = -65535;
-
-const LEAST_BIAS: i64 = -4503599627370496;
-
-const MOST_BIAS: i64 = 4503599627370496;
-
-const MOST_OUTPUT: i64 = 17179607040;
-
-const LAST_SEGMENT: i64 = 16;
-
-const MOST_FRACTION: i64 = 9999;
-
-const MOST_TIME: i64 = 6000000;
+const HIGHS: [i64; FIELDS] = [
+    2, // mode
+    4503599627370496, // bias
+    17179607040, // output
+    65535, // last PV
+    65535, // PV before
+    65535, // error
+    1, // form
+    1, // sampled
+    16, // segment
+    1, // hold
+    1, // complete
+    9999, // fraction
+    6000000, // time
+    1, // mark
+];
 
 fn mode_number(mode: Mode) -> i64
     ensures { λ r. ⌜ r ≡ pos (modeNumber mode) ⌝ }
@@ -75,7 +90,7 @@ fn mode_number(mode: Mode) -> i64
     match mode {
         Mode::Manual => 0,
         Mode::Automatic => 1,
-        Mode::Cascade => CASCADE,
+        Mode::Cascade => 2,
     }
 }
 
@@ -84,17 +99,11 @@ fn mode_from(n: i64) -> Mode
 {
     if n < 1 {
         Mode::Manual
-    } else if n < CASCADE {
+    } else if n < 2 {
         Mode::Automatic
     } else {
         Mode::Cascade
     }
-}
-
-fn flag_number(on: bool) -> i64
-    ensures { λ r. ⌜ r ≡ flag on ⌝ }
-{
-    if on { ON } else { 0 }
 }
 
 // A number is outside its range.
@@ -104,24 +113,19 @@ fn outside(n: i64, low: i64, high: i64) -> bool
     (n < low) | (high < n)
 }
 
-// H5: a number of a record is out of range. The rows of H1, spelled out.
+// H5: a number of a record is out of range. The rows are copied: read in place they cost more.
 pub fn out_of_range(n: [i64; FIELDS]) -> bool
     ensures { λ r. ⌜ r ≡ outOfRange n ⌝ }
 {
-    outside(n[MODE], 0, CASCADE)
-        | outside(n[BIAS], LEAST_BIAS, MOST_BIAS)
-        | outside(n[OUTPUT], 0, MOST_OUTPUT)
-        | outside(n[LAST_PV], 0, WORD)
-        | outside(n[PRIOR_PV], 0, WORD)
-        | outside(n[ERROR], LEAST_ERROR, WORD)
-        | outside(n[VELOCITY], 0, ON)
-        | outside(n[SAMPLED], 0, ON)
-        | outside(n[SEGMENT], 0, LAST_SEGMENT)
-        | outside(n[HOLD], 0, ON)
-        | outside(n[COMPLETE], 0, ON)
-        | outside(n[FRACTION], 0, MOST_FRACTION)
-        | outside(n[TIME], 0, MOST_TIME)
-        | outside(n[MARK], 0, ON)
+    let low = LOWS;
+    let high = HIGHS;
+    let mut found = false;
+    let mut i = 0;
+    while i < FIELDS {
+        found = found | outside(n[i], low[i], high[i]);
+        i += 1;
+    }
+    found
 }
 
 // The profile that numbers in range stand for.
@@ -129,14 +133,14 @@ fn profile_of(n: [i64; FIELDS]) -> Profile
     requires { ⌜ outOfRange n ≡ false ⌝ }
     ensures { λ r. ⌜ r ≡ profileFrom n ⌝ }
 {
-    let segment = numbers::to_unsigned(n[SEGMENT]);
-    let fraction = numbers::to_unsigned(n[FRACTION]);
+    let segment = numbers::word_of(n[SEGMENT]);
+    let fraction = numbers::word_of(n[FRACTION]);
     let time = numbers::to_unsigned(n[TIME]);
     Profile {
         segment: segment as u8,
         hold: 0 < n[HOLD],
         complete: 0 < n[COMPLETE],
-        fraction: fraction as u16,
+        fraction,
         time: time as u32,
     }
 }
@@ -187,14 +191,14 @@ pub fn numbers_of(c: Carried) -> [i64; FIELDS]
         c.past.last as i64,
         c.past.prior as i64,
         error,
-        flag_number(state.velocity),
-        flag_number(c.sampled),
+        state.velocity as i64,
+        c.sampled as i64,
         profile.segment as i64,
-        flag_number(profile.hold),
-        flag_number(profile.complete),
+        profile.hold as i64,
+        profile.complete as i64,
         profile.fraction as i64,
         profile.time as i64,
-        flag_number(state.mark),
+        state.mark as i64,
     ]
 }
 
@@ -239,5 +243,5 @@ pub fn put_mark(numbers: &mut [i64], k: u8)
     ensures { λ _. ⌜ now (numbers .exit) ≡ markedAt (now (numbers .entry)) k ⌝ }
 {
     let at = slot_of(k) + MARK;
-    numbers[at] = ON;
+    numbers[at] = 1;
 }

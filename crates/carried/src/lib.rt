@@ -1,8 +1,10 @@
 // What a loop carries from sample to sample: the record, its ranges, and its numbers in the buffer that
 // the caller lends.
+mod former;
 mod layout;
 mod record;
 
+pub use former::former_of;
 pub use layout::FIELDS;
 pub use layout::NUMBERS;
 pub use layout::numbers_at;

@@ -1,25 +1,24 @@
 -- What every direct call answers and leaves, proved.
 use Prim.Native.Nat.{ℕ, _+_, _%_, _≤_, _<_}
 use native.Mathlib.Omega.{arith}
-use mathlib.Core.Path.{_≡_, refl, sym, ap, _∙_, subst}
-use mathlib.Core.Bool.{Bool, true, false, _&&_, _||_}
+use mathlib.Core.Path.{_≡_, refl, ap, _∙_}
+use mathlib.Core.Bool.{Bool, true, false, cond, _&&_, _||_}
 use mathlib.Core.List.{List, [], _∷_, append-nil}
-use lib.Dec.{ltb, eqb, lit≤}
+use lib.Dec.{ltb}
 use lib.IntN.{ℤ, pos}
 use lib.ListN.{length, drop, set, replicate, length-take, length-drop, drop-of-length-le}
 use lib.Seq.{sets, sets-eq}
 use borrow.Author.Tests.{ne-eqb, eq-eqb, lt-ltb, le-ltb, ltb-true, ltb-false}
 use Rattle.refusals.specs.declared.Answer.{Answer}
 use Rattle.refusals.specs.declared.Answer.the-variants.{Accepted, Refused}
-use Rattle.refusals.specs.Refusals.{numberOf}
-use Rattle.refusals.specs.Refusals.Laws.{in-table, accepted-only, first-of-kind}
-use Rattle.table.specs.Words.{any}
-use Rattle.table.specs.declared.transfer.Major.{Major}
-use Rattle.table.specs.Transfers.{majorIn}
-use Rattle.table.specs.Transfers.Laws.{major-read}
-use Rattle.carried.specs.Layout.{fieldCount, numberCount, slotOf, numbersAt, recordAt, outOfRange}
-use Rattle.judging.specs.Judging.{badMajor}
-use Rattle.judging.specs.Judging.Laws.{Handed, major-good, good-major}
+use Rattle.refusals.specs.declared.Refusal.the-variants.{Record}
+use Rattle.refusals.specs.Refusals.{numberOfRefusal, numberOf, Case, firstOf}
+use Rattle.refusals.specs.Refusals.Laws.{in-table, accepted-only, Each, first-of-kind}
+use Rattle.table.specs.Words.Laws.{and-true}
+use Rattle.reading.specs.Reading.Laws.{Reads, reads}
+use Rattle.carried.specs.Former.{formerOf}
+use Rattle.carried.specs.Layout.{Rows, numberCount, slotOf, numbersAt, carriedAt, outOfRange}
+use Rattle.carried.specs.Layout.Laws.{rows-in, in-rows}
 use Rattle.desk.specs.Desk.{Desk, lent, fittingOf, memoryCases, noLoop, resetAnswer, resetLeft, engineWord, storeCases, storeAnswer, storeLeft, readingAt, sampleCases, sampleAnswer, remainingOf, countedBy, forecastAt, copiedBy, fieldsAnswer, fieldsLeft}
 use Rattle.desk.specs.Desk.Laws.{sound, there-loop, reset-sound, reset-numbers}
 use Rattle.desk.specs.Lists.{Call, reset, store, sample, answerTo, deskAfter}
@@ -28,22 +27,33 @@ use Rattle.kexbardi.specs.Interface.{lineLeft}
 use Rattle.kexbardi_profiles.specs.Told.{toldBy}
 use Rattle.setups.specs.Setup.{setupOf, setupAnswer, setupLeft}
 use Rattle.kexbardi_files.specs.Files.{filled, setupFilled}
-use Rattle.claims.specs.Calls.{Answered, Reserved, pv, bias, status, profile, transferAt, pvAt, ToMajor, Called}
+use Rattle.claims.specs.Formats.{wordOf}
+use Rattle.claims.specs.Calls.{answers, Answered, Reserved, Called}
 
--- the answer to a call is 0, or a number up to 14, and never 10
-pub small : {n : ℕ} → n ≤ 9 → Answered n
-small h = (omega arith, λ e. omega arith)
+-- ---- what a sample reads
 
-large : {n : ℕ} → n ≤ 14 → 11 ≤ n → Answered n
-large h low = (h, λ e. omega arith)
+pub by-words : (d : Desk) (k : ℕ) → Reads (wordOf d k) (readingAt d k .settings)
+by-words d k = reads (d .words) k (formerOf (carriedAt (d .numbers) k .state))
+
+-- ---- which numbers are answers
+
+-- a list of cases has numbers of refusals that are: the list is written out, so that it is computed
+abbrev allTold : List Case → Bool
+allTold [] = true
+allTold (x ∷ l) = answers (numberOfRefusal (x .why)) && allTold l
+
+each-told : (l : List Case) → allTold l ≡ true → Each Answered l
+each-told [] e = tt
+each-told (x ∷ l) e = let p = and-true (answers (numberOfRefusal (x .why))) (allTold l) e in (p .0, each-told l (p .1))
+
+first-told : (l : List Case) → allTold l ≡ true → Answered (numberOf (firstOf l))
+first-told l e = first-of-kind Answered refl l (each-told l e)
 
 pub told : (d : Desk) (call : Call) → Answered (numberOf (answerTo d call))
 unfolding answerTo resetAnswer storeAnswer sampleAnswer
-told d reset = first-of-kind Answered (small (lit≤ tt)) (memoryCases d) (small (lit≤ tt), tt)
-told d (store address value) = first-of-kind Answered (small (lit≤ tt)) (storeCases d address) (small (lit≤ tt), (small (lit≤ tt), (small (lit≤ tt), tt)))
-told d (sample k raw) =
-    first-of-kind Answered (small (lit≤ tt)) (sampleCases d k raw)
-    (small (lit≤ tt), (small (lit≤ tt), (small (lit≤ tt), (small (lit≤ tt), (small (lit≤ tt), (large (lit≤ tt) (lit≤ tt), (large (lit≤ tt) (lit≤ tt), (large (lit≤ tt) (lit≤ tt), (small (lit≤ tt), (large (lit≤ tt) (lit≤ tt), tt))))))))))
+told d reset = first-told (memoryCases d) refl
+told d (store address value) = first-told (storeCases d address) refl
+told d (sample k raw) = first-told (sampleCases d k raw) refl
 
 pub fitting : (d : Desk) → length (d .words) ≡ 1024 → length (d .numbers) ≡ numberCount → fittingOf d ≡ true
 unfolding fittingOf
@@ -54,29 +64,14 @@ fitting d ws ns = rw (ws, ns)
 -- an offset that no store reaches is one of the definition's, and the other way round
 module _ (address : ℕ) where
   pub reserved : address < 512 → Reserved (address % 32) → engineWord address ≡ true
-  reserved low r = rw (lt-ltb address 512 low) (go r)
-    where
-      go : {i : ℕ} → Reserved i → any (eqb i 3 ∷ eqb i 4 ∷ eqb i 6 ∷ eqb i 29 ∷ []) ≡ true
-      go pv = refl
-      go bias = refl
-      go status = refl
-      go profile = refl
+  reserved low r = rw (lt-ltb address 512 low) r
 
   pub free : (address < 512 → Reserved (address % 32) → ⊥) → engineWord address ≡ false
-  free unkept = above (ltb address 512) refl
+  free unkept = go (engineWord address) refl
     where
-      none : (i : ℕ) → (Reserved i → ⊥) → any (eqb i 3 ∷ eqb i 4 ∷ eqb i 6 ∷ eqb i 29 ∷ []) ≡ false
-      none i n =
-          rw (
-            ne-eqb i 3 (λ e. n (subst Reserved (sym e) pv)),
-            ne-eqb i 4 (λ e. n (subst Reserved (sym e) bias)),
-            ne-eqb i 6 (λ e. n (subst Reserved (sym e) status)),
-            ne-eqb i 29 (λ e. n (subst Reserved (sym e) profile)),
-          )
-
-      above : (b : Bool) → ltb address 512 ≡ b → engineWord address ≡ false
-      above true e = rw e (none (address % 32) (unkept (ltb-true address 512 e)))
-      above false e = rw e
+      go : (b : Bool) → engineWord address ≡ b → engineWord address ≡ false
+      go false e = e
+      go true e = let p = and-true (ltb address 512) _ e in absurd (unkept (ltb-true address 512 (p .0)) (p .1))
 
 module _ (d : Desk) (address : ℕ) (fit : fittingOf d ≡ true) where
   pub stored : (value : ℕ) → address ≤ 1023 → engineWord address ≡ false
@@ -97,9 +92,9 @@ module _ (d : Desk) (address : ℕ) (fit : fittingOf d ≡ true) where
 -- ---- reset
 
 cleared : (d : Desk) → fittingOf d ≡ true
-    → (numberOf (resetAnswer d) ≡ 0) × (resetLeft d ≡ lent (replicate 1024 0) (replicate numberCount (pos 0)))
+    → (numberOf (resetAnswer d) ≡ 0) × (resetLeft d .words ≡ replicate 1024 0) × (resetLeft d .numbers ≡ replicate 224 (pos 0))
 unfolding resetAnswer
-cleared d fit = (rw fit, reset-sound d fit ∙ reset-numbers)
+cleared d fit = let e = reset-sound d fit ∙ reset-numbers in (rw fit, ap (λ (x : Desk). x .words) e, ap (λ (x : Desk). x .numbers) e)
 
 -- ---- samples
 
@@ -116,35 +111,6 @@ no-such-loop k wrong = go (ltb k 1) refl (ltb 16 k) refl
     go false e true f = rw (e, f)
     go false e false f = absurd (wrong (ltb-false k 1 e, ltb-false 16 k f))
 
--- N11 by the limits that were read, and by the words where they stand
-module _ (d : Desk) (k raw : ℕ) where
-  abbrev pub read : Major
-  read = majorIn (d .words) k (readingAt d k .settings .pointer)
-
-  from-major : ToMajor d k raw → Handed read (pvAt d k raw)
-  unfolding majorIn
-  from-major m = let e = major-read (d .words) k (readingAt d k .settings .pointer) (m .major) in record { number = m .major; low = rw (e .1) (m .low); high = rw (e .2) (m .high) }
-
-  pub to-major : Handed read (pvAt d k raw) → ToMajor d k raw
-  unfolding majorIn
-  to-major m = let e = major-read (d .words) k (readingAt d k .settings .pointer) (m .number) in record { major = m .number; low = rw (e .1) at (m .low); high = rw (e .2) at (m .high) }
-
-  -- a sample that is no transfer passes it
-  pub passing-major : (transferAt d k ≡ true → ToMajor d k raw) → (transferAt d k && badMajor read (pvAt d k raw)) ≡ false
-  passing-major h = go (transferAt d k) refl
-    where
-      go : (b : Bool) → transferAt d k ≡ b → (b && badMajor read (pvAt d k raw)) ≡ false
-      go true on = good-major read (pvAt d k raw) (from-major (h on))
-      go false off = refl
-
-  -- and one that has no such loop does not
-  pub no-major : transferAt d k ≡ true → (ToMajor d k raw → ⊥) → (transferAt d k && badMajor read (pvAt d k raw)) ≡ true
-  no-major on none = rw on (go (badMajor read (pvAt d k raw)) refl)
-    where
-      go : (b : Bool) → badMajor read (pvAt d k raw) ≡ b → badMajor read (pvAt d k raw) ≡ true
-      go true e = e
-      go false e = absurd (none (to-major (major-good read (pvAt d k raw) e)))
-
 -- ---- forecasts
 
 -- by the answer to the sample
@@ -154,10 +120,10 @@ told-by Accepted n samples = (refl, λ _. refl, λ h. absurd (omega arith))
 told-by (Refused why) n samples = (refl, λ e. absurd (omega (arith, in-table why)), λ _. refl)
 
 pub forecasts : (d : Desk) (k samples : ℕ) → let t = toldBy (forecastAt d k) samples in
-    (t .number ≡ numberOf (sampleAnswer d k 0)) × (t .number ≡ 0 → t .samples ≡ remainingOf (d .words) k (recordAt (d .numbers) k))
+    (t .number ≡ numberOf (sampleAnswer d k 0)) × (t .number ≡ 0 → t .samples ≡ remainingOf d k)
     × (0 < t .number → t .samples ≡ samples)
 unfolding forecastAt
-forecasts d k samples = told-by (sampleAnswer d k 0) (remainingOf (d .words) k (recordAt (d .numbers) k)) samples
+forecasts d k samples = told-by (sampleAnswer d k 0) (remainingOf d k) samples
 
 -- ---- a record copied out
 
@@ -176,23 +142,27 @@ module _ (ns : List ℤ) (k : ℕ) (copied : List ℤ) where
       let rest : drop (0 + length found) copied ≡ [] = drop-of-length-le copied {i = 0 + length found} (omega arith) in
       sets-eq found copied 0 (omega arith) ∙ rw rest (append-nil found)
 
-  fields-copied : length ns ≡ numberCount → 1 ≤ k → k ≤ 16 → outOfRange (numbersAt ns (slotOf k)) ≡ false → length copied ≡ fieldCount
+  fields-copied : length ns ≡ 224 → 1 ≤ k → k ≤ 16 → Rows (numbersAt ns (slotOf k)) → length copied ≡ 14
       → (numberOf (fieldsAnswer ns k) ≡ 0) × (fieldsLeft ns k copied ≡ numbersAt ns (slotOf k))
   unfolding fieldsAnswer fieldsLeft
-  fields-copied size above below range room =
-      let a : fieldsAnswer ns k ≡ Accepted = rw (eq-eqb (length ns) numberCount size, there-loop k above below, range) in
+  fields-copied size above below rows room =
+      let a : fieldsAnswer ns k ≡ Accepted = rw (eq-eqb (length ns) 224 size, there-loop k above below, in-rows (numbersAt ns (slotOf k)) rows) in
       let whole : length (numbersAt ns (slotOf k)) ≡ length copied = simp (length-take, length-drop) (omega arith) in
       (ap numberOf a, rw a (over (numbersAt ns (slotOf k)) whole))
 
-fields-refused : (ns : List ℤ) (k : ℕ) → ((length ns ≡ numberCount → ⊥) → numberOf (fieldsAnswer ns k) ≡ 5)
-    × (length ns ≡ numberCount → ((1 ≤ k) × (k ≤ 16) → ⊥) → numberOf (fieldsAnswer ns k) ≡ 4)
-    × (length ns ≡ numberCount → 1 ≤ k → k ≤ 16 → outOfRange (numbersAt ns (slotOf k)) ≡ true → numberOf (fieldsAnswer ns k) ≡ 5)
+fields-refused : (ns : List ℤ) (k : ℕ) → ((length ns ≡ 224 → ⊥) → numberOf (fieldsAnswer ns k) ≡ 5)
+    × (length ns ≡ 224 → ((1 ≤ k) × (k ≤ 16) → ⊥) → numberOf (fieldsAnswer ns k) ≡ 4)
+    × (length ns ≡ 224 → 1 ≤ k → k ≤ 16 → (Rows (numbersAt ns (slotOf k)) → ⊥) → numberOf (fieldsAnswer ns k) ≡ 5)
 unfolding fieldsAnswer
 fields-refused ns k = (
-  λ ne. rw (ne-eqb (length ns) numberCount ne),
-  λ e wrong. rw (eq-eqb (length ns) numberCount e, no-such-loop k wrong),
-  λ e above below out. rw (eq-eqb (length ns) numberCount e, there-loop k above below, out),
+  λ ne. rw (ne-eqb (length ns) 224 ne),
+  λ e wrong. rw (eq-eqb (length ns) 224 e, no-such-loop k wrong),
+  λ e above below out. rw (eq-eqb (length ns) 224 e, there-loop k above below) (outside (outOfRange (numbersAt ns (slotOf k))) refl out),
 )
+  where
+    outside : (b : Bool) → outOfRange (numbersAt ns (slotOf k)) ≡ b → (Rows (numbersAt ns (slotOf k)) → ⊥) → numberOf (cond b (Refused Record) Accepted) ≡ 5
+    outside true e out = refl
+    outside false e out = absurd (out (rows-in (numbersAt ns (slotOf k)) e))
 
 -- ---- a setup file
 
@@ -213,7 +183,8 @@ called = record {
   lengths = λ d. (fitting d, λ e. (sound d e .words, sound d e .numbers));
   answers = λ d call. (told d call, λ e. ap numberOf (unfit d e call));
   zero = accepted-only;
-  stores = λ d address value fit low unkept. stored d address fit value low (free address unkept);
+  stores = λ d address value fit low unkept. let s = stored d address fit value low (free address unkept) in
+      (s .0, ap (λ (x : Desk). x .words) (s .1), ap (λ (x : Desk). x .numbers) (s .1));
   unstored = λ d address fit. (beyond d address fit, kept d address fit);
   resets = cleared;
   copies = fields-copied;

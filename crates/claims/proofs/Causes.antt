@@ -1,51 +1,50 @@
 -- Which number a sample is refused with, proved: each test of the definitions decides the causes of its row.
-use Prim.Native.Nat.{ℕ, zero, suc, _+_, _*_, _/_, _%_, _≤_, _<_}
+use Prim.Native.Nat.{ℕ, zero, suc, _+_, _*_, _≤_, _<_}
 use native.Mathlib.Omega.{arith}
 use native.Mathlib.Nat.{mul-le-mul}
 use mathlib.Core.Path.{_≡_, refl, sym, ap, _∙_, subst}
 use mathlib.Core.Bool.{Bool, true, false, cond, not, _&&_, _||_, false≢true}
 use mathlib.Core.Logic.{_⊎_, inl, inr}
 use mathlib.Core.List.{List, [], _∷_, _++_}
-use lib.Dec.{ltb, eqb, lit<}
+use lib.Dec.{lit<, ltb, eqb}
 use lib.IntN.{ℤ, pos, negsuc}
 use lib.ListN.{length, getD}
 use lib.Signed.{_≤ℤ_}
 use Rattle.numbers.specs.Whole.{linear}
 use Rattle.numbers.specs.Roots.{Nearest}
 use Rattle.numbers.specs.Roots.Laws.{root-exact}
-use Rattle.refusals.specs.declared.Refusal.the-variants.{Memory, Record, Digit, Setting, Times, Limits, Setpoint, Above}
-use Rattle.refusals.specs.declared.Refusal.the-variants.{Loop as NoLoop, Transfer as NoTransfer}
 use Rattle.refusals.specs.Decides.{Decides, in-words, so, not-so, is-true, is-false, is-less, is-same, is-not, is-or, is-both}
-use Rattle.refusals.specs.Refusals.{numberOf, _⇒_, firstOf, OneOf, FirstIn}
+use Rattle.refusals.specs.Refusals.{numberOf, OneOf, FirstIn}
 use Rattle.refusals.specs.Refusals.Laws.{Tests, done, tests, first-reported, first-alone}
-use Rattle.reader.specs.declared.Record.{Record as Item}
+use Rattle.reader.specs.declared.Record.{Record}
 use Rattle.reader.specs.declared.Record.the-variants.{Sample}
 use Rattle.reader.specs.File.{recordsOf}
-use Rattle.table.specs.Words.{bit, bcd, badDigit, any, anyAfter, blockAt}
+use Rattle.table.specs.Words.{bit, bcd, badDigit, any, anyAfter, baseOf, blockAt}
 use Rattle.table.specs.Words.Laws.{block-at}
 use Rattle.table.specs.declared.mode.Mode.{Mode}
 use Rattle.table.specs.declared.mode.Mode.the-variants.{Manual, Automatic, Cascade}
+use Rattle.reading.specs.declared.transfer.Major.{Major}
 use Rattle.table.specs.Modes.{isAutomatic, isCascade}
-use Rattle.table.specs.Transfers.{transfers, majorOf}
-use Rattle.table.specs.Transfers.Laws.{major-is, major-found}
-use Rattle.table.specs.Settings.{mode1Of, unusedBits, badDigits, tuningOf, settingsOf}
-use Rattle.table.specs.Programs.{anyBelow, badDigitIn, highEndIn}
-use Rattle.table.specs.Programs.Laws.{none-below, good-address, address-good, program-on, program-there, program-tested}
-use Rattle.table.specs.Reading.{modeAfter, remoteOf, readingOf}
-use Rattle.table.specs.Reading.Laws.{input-scale}
-use Rattle.carried.specs.Layout.{modeFrom, recordFrom, slotOf, outOfRange, numbersAt, recordAt}
-use Rattle.carried.specs.Layout.Laws.{Rows, rows-in, in-rows}
-use Rattle.engine.specs.Sensing.{pvOf}
+use Rattle.reading.specs.Transfers.{transfers, majorOf, majorIn}
+use Rattle.reading.specs.Transfers.Laws.{IsMajor, major-found, major-read}
+use Rattle.reading.specs.Settings.{unusedBits}
+use Rattle.reading.specs.Programs.{anyBelow, badDigitIn, highEndIn}
+use Rattle.reading.specs.Programs.Laws.{none-below, good-address, address-good, program-on, program-there, program-tested}
+use Rattle.reading.specs.Reading.{modeAfter, remoteOf, readingOf}
+use Rattle.reading.specs.Reading.Laws.{Reads, input-scale}
+use Rattle.carried.specs.Layout.{Rows, modeFrom, recordFrom, slotOf, outOfRange, numbersAt, carriedAt}
+use Rattle.carried.specs.Former.{formerOf}
+use Rattle.carried.specs.Layout.Laws.{rows-in, in-rows}
+use Rattle.measuring.specs.Measuring.{pvOf}
 use Rattle.judging.specs.Judging.{badModes, badTimes, badLimits, badSetpoint, badMajor}
-use Rattle.judging.specs.Judging.Laws.{major-good}
-use Rattle.desk.specs.Desk.{Desk, fittingOf, noLoop, readingAt, sampleCases, sampleAnswer}
+use Rattle.judging.specs.Judging.Laws.{MajorGood, major-good, good-major}
+use Rattle.desk.specs.Desk.{Desk, fittingOf, noLoop, readingAt, sampleCases, sampleAnswer, pvAt}
 use Rattle.desk.specs.Lists.{answerTo}
 use Rattle.session.specs.Session.{numberFor, State, begun, after, runOf, answersFor, answersOf}
-use Rattle.claims.specs.Calls.{transferAt, majorAt, pvAt, ToMajor}
+use Rattle.claims.specs.Calls.{transferAt, majorAt}
 use Rattle.claims.specs.Formats.{wordOf, inputFull, outputFull}
-use Rattle.claims.specs.Causes.{HighDigit, hundredths, StrayBit, modeCarried, InCascade, Transferring, Receives, Tabled, tableWord, InTable, wrongDigit, wrongMode, wrongTime, wrongLimit, wrongSetpoint, sampleRows, sampleThen, numberThen, Ordered}
-use Rattle.claims.proofs.Calls.{read, to-major, passing-major, forecasts}
-use Rattle.claims.proofs.Formats.{at, unused, low, high, setpoint2}
+use Rattle.claims.specs.Causes.{modeCarried, InCascade, Transferring, Receives, Tabled, tableWord, InTable, wrongDigit, wrongMode, wrongTime, wrongLimit, wrongSetpoint, sampleRows, Ordered}
+use Rattle.claims.proofs.Calls.{by-words, forecasts}
 
 -- ---- several tests
 
@@ -77,20 +76,6 @@ one-of : (tests : List Bool) (causes : List (Type 0)) → DecidesAll tests cause
 one-of [] [] no-more = record { yes = λ e. absurd (false≢true e); no = λ _ none. none }
 one-of (b ∷ l) (P ∷ Ps) (d also h) = one-of-after l Ps h b P d
 
--- ---- single words
-
-is-digit : (w : ℕ) → Decides (badDigit w) (HighDigit w)
-unfolding badDigit
-is-digit w =
-    one-of (ltb 9 (w / 4096 % 16) ∷ ltb 9 (w / 256 % 16) ∷ ltb 9 (w / 16 % 16) ∷ ltb 9 (w % 16) ∷ []) _
-    (is-less _ _ also is-less _ _ also is-less _ _ also is-less _ _ also no-more)
-
-is-stray : (w : ℕ) → Decides (unusedBits w) (StrayBit w)
-is-stray w =
-    one-of (bit 0 w ∷ bit 2 w ∷ bit 3 w ∷ bit 5 w ∷ bit 6 w ∷ bit 7 w ∷ bit 11 w ∷ bit 14 w ∷ bit 15 w ∷ (not (bit 10 w) && (bit 12 w || bit 13 w)) ∷ []) _
-    (is-true _ also is-true _ also is-true _ also is-true _ also is-true _ also is-true _ also is-true _ also is-true _ also is-true _
-    also is-both _ _ (is-false _) (λ _. is-or _ _ (is-true _) (is-true _)) also no-more)
-
 -- a test that holds of a number below n
 some-below : (n : ℕ) (test : ℕ → Bool) → anyBelow n test ≡ true → (i : ℕ) × (i < n) × (test i ≡ true)
 unfolding anyBelow
@@ -112,24 +97,37 @@ below n test P d = record {
 -- ---- what is read of the words of a loop
 
 module _ (d : Desk) (k : ℕ) where
+  abbrev read : Reads (wordOf d k) (readingAt d k .settings)
+  read = by-words d k
+
+  -- A13: and of those of its major loop
+  abbrev pub major : Major
+  major = readingAt d k .major
+
+  major-on : transferAt d k ≡ true → majorAt d k ≡ majorOf k (readingAt d k .settings .pointer)
+  unfolding readingOf majorIn
+  major-on on = rw on
+
+  major-at : let m = readingAt d k .major in (m .number ≡ 0 → ⊥)
+      → IsMajor k (readingAt d k .settings .pointer) (m .number)
+      × (m .limits .low ≡ getD (d .words) (baseOf (m .number) + 24) 0) × (m .limits .high ≡ getD (d .words) (baseOf (m .number) + 25) 0)
+  unfolding readingOf
+  major-at some = major-read (d .words) (transferAt d k) k (readingAt d k .settings .pointer) some
+
   -- a word of the table, by its place in it
   of-table : (i : ℕ) → i < 32 → getD (blockAt (d .words) (wordOf d k 28)) i 0 ≡ tableWord d k i
   of-table i h = block-at (d .words) (wordOf d k 28) i h
-
-  profile : readingAt d k .settings .mode1 .profile ≡ bit 11 (wordOf d k 0)
-  unfolding readingOf settingsOf
-  profile = rw (at d k 0 (lit< tt))
 
   there : readingAt d k .program .on ≡ true → Tabled d k
   unfolding readingOf
   there e =
       let p = program-on (d .words) (wordOf d k 28) _ _ _ e in
       let good = good-address (wordOf d k 28) (p .1) in
-      record { on = sym profile ∙ p .0; low = good .0; high = good .1 }
+      record { on = rw (read .mode1) at (p .0); low = good .0; high = good .1 }
 
   back : Tabled d k → readingAt d k .program .on ≡ true
   unfolding readingOf
-  back t = program-there (d .words) (wordOf d k 28) _ _ _ (profile ∙ t .on) (address-good (wordOf d k 28) (t .low) (t .high))
+  back t = program-there (d .words) (wordOf d k 28) _ _ _ (rw (read .mode1) (t .on)) (address-good (wordOf d k 28) (t .low) (t .high))
 
   -- a test of the table's ramps, where there is a table
   in-table : (P : ℕ → Type 0) (test : ℕ → Bool) → ((i : ℕ) → i < 8 → Decides (test i) (P i)) → Decides (readingAt d k .program .on && anyBelow 8 test) (InTable d k P)
@@ -141,23 +139,17 @@ module _ (d : Desk) (k : ℕ) where
   abbrev digitAt : ℕ → Bool
   digitAt i = badDigit (getD (blockAt (d .words) (wordOf d k 28)) (4 * i + 1) 0) || badDigit (getD (blockAt (d .words) (wordOf d k 28)) (4 * i + 2) 0)
 
-  digit-at : (i : ℕ) → i < 8 → Decides (digitAt i) (HighDigit (tableWord d k (4 * i + 1)) ⊎ HighDigit (tableWord d k (4 * i + 2)))
-  digit-at i h = rw (of-table (4 * i + 1) (omega arith), of-table (4 * i + 2) (omega arith)) (is-or _ _ (is-digit _) (is-digit _))
+  digit-at : (i : ℕ) → i < 8 → Decides (digitAt i) ((badDigit (tableWord d k (4 * i + 1)) || badDigit (tableWord d k (4 * i + 2))) ≡ true)
+  digit-at i h = rw (of-table (4 * i + 1) (omega arith), of-table (4 * i + 2) (omega arith)) (is-true _)
 
-  table-digits : Decides (readingAt d k .program .baddigit) (InTable d k (λ i. HighDigit (tableWord d k (4 * i + 1)) ⊎ HighDigit (tableWord d k (4 * i + 2))))
+  table-digits : Decides (readingAt d k .program .baddigit) (InTable d k (λ i. (badDigit (tableWord d k (4 * i + 1)) || badDigit (tableWord d k (4 * i + 2))) ≡ true))
   unfolding readingOf badDigitIn
   table-digits = rw (program-tested (d .words) (wordOf d k 28) _ _ _ .0) (in-table _ digitAt digit-at)
 
-  word-digits : readingAt d k .settings .baddigit ≡ (badDigit (wordOf d k 7) || badDigit (wordOf d k 8) || badDigit (wordOf d k 9) || badDigit (wordOf d k 10))
-  unfolding readingOf settingsOf badDigits
-  word-digits = rw (at d k 7 (lit< tt), at d k 8 (lit< tt), at d k 9 (lit< tt), at d k 10 (lit< tt))
-
   digits : Decides (readingAt d k .settings .baddigit || readingAt d k .program .baddigit) (OneOf (wrongDigit d k))
   digits =
-      rw word-digits
-      (one-of
-      (badDigit (wordOf d k 7) ∷ badDigit (wordOf d k 8) ∷ badDigit (wordOf d k 9) ∷ badDigit (wordOf d k 10) ∷ readingAt d k .program .baddigit ∷ [])
-      (wrongDigit d k) (is-digit _ also is-digit _ also is-digit _ also is-digit _ also table-digits also no-more))
+      one-of (readingAt d k .settings .baddigit ∷ readingAt d k .program .baddigit ∷ []) (wrongDigit d k)
+      (rw (read .baddigit) (is-true _) also table-digits also no-more)
 
   -- ---- N8
 
@@ -173,14 +165,6 @@ module _ (d : Desk) (k : ℕ) where
   unfolding readingOf highEndIn
   table-ends = rw (program-tested (d .words) (wordOf d k 28) _ _ _ .1) (in-table _ endAt end-at)
 
-  bits : readingAt d k .settings .mode1 ≡ mode1Of (wordOf d k 0)
-  unfolding readingOf settingsOf
-  bits = ap mode1Of (at d k 0 (lit< tt))
-
-  hysteresis : readingAt d k .settings .alarms .hysteresis ≡ wordOf d k 18
-  unfolding readingOf settingsOf
-  hysteresis = at d k 18 (lit< tt)
-
   watched : Decides ((bit 12 (wordOf d k 0) || bit 13 (wordOf d k 0)) && (ltb (wordOf d k 18) 1 || ltb 200 (wordOf d k 18)))
       (((bit 12 (wordOf d k 0) ≡ true) ⊎ (bit 13 (wordOf d k 0) ≡ true)) × ((wordOf d k 18 < 1) ⊎ (200 < wordOf d k 18)))
   watched = is-both _ _ (is-or _ _ (is-true _) (is-true _)) (λ _. is-or _ _ (is-less _ _) (is-less _ _))
@@ -188,7 +172,7 @@ module _ (d : Desk) (k : ℕ) where
   modes : Decides (badModes (readingAt d k .settings .mode1) (readingAt d k .settings .mode2 .unused) (readingAt d k .settings .alarms .hysteresis) || readingAt d k .program .highend)
       (OneOf (wrongMode d k))
   modes =
-      rw (bits, unused d k, hysteresis)
+      rw (read .mode1, read .unused, read .alarms)
       (one-of
       ((bit 5 (wordOf d k 0) && bit 3 (wordOf d k 0))
       ∷ bit 9 (wordOf d k 0)
@@ -197,33 +181,25 @@ module _ (d : Desk) (k : ℕ) where
       ∷ readingAt d k .program .highend
       ∷ [])
       (wrongMode d k)
-      (is-both _ _ (is-true _) (λ _. is-true _)
-      also is-true _
-      also is-stray (wordOf d k 1)
-      also watched
-      also table-ends
-      also no-more))
+      (is-both _ _ (is-true _) (λ _. is-true _) also is-true _ also is-true _ also watched also table-ends also no-more))
 
   -- ---- N12 and N13
 
   times : Decides (badTimes (readingAt d k .settings .tuning)) (OneOf (wrongTime d k))
-  unfolding readingOf settingsOf tuningOf bcd
   times =
-      rw (at d k 7 (lit< tt), at d k 9 (lit< tt))
-      (one-of (ltb (hundredths (wordOf d k 7)) 5 ∷ eqb (hundredths (wordOf d k 9)) 0 ∷ []) (wrongTime d k) (is-less _ _ also is-same _ _ also no-more))
+      rw (read .period, read .reset)
+      (one-of (ltb (bcd (wordOf d k 7)) 5 ∷ eqb (bcd (wordOf d k 9)) 0 ∷ []) (wrongTime d k) (is-less _ _ also is-same _ _ also no-more))
 
   limits : Decides (badLimits (readingAt d k .settings .limits) (outputFull d k)) (OneOf (wrongLimit d k))
-  limits = rw (low d k, high d k) (one-of (ltb (wordOf d k 25) (wordOf d k 24) ∷ ltb (outputFull d k) (wordOf d k 25) ∷ []) (wrongLimit d k) (is-less _ _ also is-less _ _ also no-more))
+  limits =
+      rw (read .low, read .high)
+      (one-of (ltb (wordOf d k 25) (wordOf d k 24) ∷ ltb (outputFull d k) (wordOf d k 25) ∷ []) (wrongLimit d k) (is-less _ _ also is-less _ _ also no-more))
 
   -- ---- the word that is followed
 
-  pointer : readingAt d k .settings .pointer ≡ wordOf d k 26
-  unfolding readingOf settingsOf
-  pointer = at d k 26 (lit< tt)
-
   remote : isCascade (readingAt d k .mode) ≡ true → readingAt d k .remote ≡ getD (d .words) (wordOf d k 26) 0
-  unfolding readingOf remoteOf settingsOf
-  remote on = rw (on, at d k 26 (lit< tt))
+  unfolding readingOf remoteOf
+  remote on = rw (on, read .pointer)
 
 -- ---- the mode that the sample takes
 
@@ -248,15 +224,15 @@ of-number (pos (suc (suc (suc n)))) low high = absurd (omega (arith, linear))
 of-number (negsuc n) low high = absurd (omega (arith, linear))
 
 module _ (d : Desk) (k : ℕ) (range : outOfRange (numbersAt (d .numbers) (slotOf k)) ≡ false) where
-  carried : Decides (isAutomatic (recordAt (d .numbers) k .state .mode)) (modeCarried d k ≡ pos 1) × Decides (isCascade (recordAt (d .numbers) k .state .mode)) (modeCarried d k ≡ pos 2)
+  carried : Decides (isAutomatic (carriedAt (d .numbers) k .state .mode)) (modeCarried d k ≡ pos 1) × Decides (isCascade (carriedAt (d .numbers) k .state .mode)) (modeCarried d k ≡ pos 2)
   unfolding recordFrom
-  carried = let row = rows-in (numbersAt (d .numbers) (slotOf k)) range .mode in of-number (modeCarried d k) (row .0) (row .1)
+  carried = let row = rows-in (numbersAt (d .numbers) (slotOf k)) range 0 (lit< tt) in of-number (modeCarried d k) (row .0) (row .1)
 
   in-cascade : Decides (isCascade (readingAt d k .mode)) (InCascade d k)
-  unfolding readingOf settingsOf modeAfter
+  unfolding readingOf modeAfter
   in-cascade =
-      rw (at d k 0 (lit< tt))
-      (by-requests (bit 0 (wordOf d k 0)) (bit 1 (wordOf d k 0)) (bit 2 (wordOf d k 0)) (recordAt (d .numbers) k .state .mode) (modeCarried d k ≡ pos 2) (carried .1))
+      rw (read d k .mode1)
+      (by-requests (bit 0 (wordOf d k 0)) (bit 1 (wordOf d k 0)) (bit 2 (wordOf d k 0)) (carriedAt (d .numbers) k .state .mode) (modeCarried d k ≡ pos 2) (carried .1))
 
   -- N14
 
@@ -266,7 +242,7 @@ module _ (d : Desk) (k : ℕ) (range : outOfRange (numbersAt (d .numbers) (slotO
   setpoint =
       let cascade = isCascade (readingAt d k .mode) in
       let far = readingAt d k .remote in
-      rw (setpoint2 d k, pointer d k)
+      rw (read d k .setpoint, read d k .pointer)
       (one-of ((not cascade && ltb (inputFull d k) (wordOf d k 2)) ∷ (cascade && (ltb 1023 (wordOf d k 26) || ltb (inputFull d k) far)) ∷ []) (wrongSetpoint d k)
       (is-both _ _ (is-not cascade in-cascade) (λ _. is-less _ _)
       also is-both _ _ in-cascade (λ on. is-or _ _ (is-less _ _) (rw (remote d k on) (is-less _ _)))
@@ -275,7 +251,7 @@ module _ (d : Desk) (k : ℕ) (range : outOfRange (numbersAt (d .numbers) (slotO
   -- A13, N11
 
   one : Decides (not (readingAt d k .settings .mode1 .bumpless)) (bit 3 (wordOf d k 0) ≡ false)
-  one = rw (bits d k) (is-false _)
+  one = rw (read d k .mode1) (is-false _)
 
   handing-over : Decides (transferAt d k) (Transferring d k)
   unfolding readingOf transfers
@@ -308,42 +284,41 @@ module _ (d : Desk) (k raw : ℕ) where
   unfolding noLoop
   loops = one-of (ltb k 1 ∷ ltb 16 k ∷ []) ((k < 1) ∷ (16 < k) ∷ []) (is-less _ _ also is-less _ _ also no-more)
 
-  -- a loop that receives p is the major one, and passes N11
-  received : (j : ℕ) → Receives d k j (pvAt d k raw) → ToMajor d k raw
-  received j r =
-      let e : majorAt d k ≡ j = ap (majorOf k) (pointer d k ∙ r .output) ∙ major-found k j (r .first) (r .last) (r .other) in
-      record { major = λ z. omega (arith, e, z, r .first); low = rw e (r .low); high = rw e (r .high) }
+  -- a loop that receives p is the major one
+  received : transferAt d k ≡ true → (j : ℕ) → Receives d k j (pvAt d k raw) → MajorGood (major d k) (pvAt d k raw)
+  received on j r =
+      let e : majorAt d k ≡ j = major-on d k on ∙ ap (majorOf k) (read d k .pointer ∙ r .output) ∙ major-found k j (r .first) (r .last) (r .other) in
+      let some : majorAt d k ≡ 0 → ⊥ = λ z. omega (arith, e, z, r .first) in
+      let m = major-at d k some in
+      record { number = some; low = rw (m .1, e) (r .low); high = rw (m .2, e) (r .high) }
 
   -- and the major one receives it
-  receives : ToMajor d k raw → Receives d k (majorAt d k) (pvAt d k raw)
-  receives m =
-      let j = major-is k (readingAt d k .settings .pointer) (m .major) in
-      record { first = j .above; last = j .below; other = j .other; output = sym (pointer d k) ∙ j .output; low = m .low; high = m .high }
+  pub receives : MajorGood (major d k) (pvAt d k raw) → Receives d k (majorAt d k) (pvAt d k raw)
+  receives h =
+      let m = major-at d k (h .number) in
+      let j = m .0 in
+      record { first = j .above; last = j .below; other = j .other; output = sym (read d k .pointer) ∙ j .output; low = rw (m .1) at (h .low); high = rw (m .2) at (h .high) }
 
   transfer : outOfRange (numbersAt (d .numbers) (slotOf k)) ≡ false
-      → Decides (transferAt d k && badMajor (read d k raw) (pvAt d k raw)) (Transferring d k × ((j : ℕ) → Receives d k j (pvAt d k raw) → ⊥))
+      → Decides (badMajor (transferAt d k) (major d k) (pvAt d k raw)) (Transferring d k × ((j : ℕ) → Receives d k j (pvAt d k raw) → ⊥))
   transfer range =
-      is-both (transferAt d k) (badMajor (read d k raw) (pvAt d k raw)) (handing-over d k range) (λ on. record {
-        yes = λ e j r. false≢true (sym (rw on at (passing-major d k raw (λ _. received j r))) ∙ e);
-        no = λ e none. none (majorAt d k) (receives (to-major d k raw (major-good (read d k raw) (pvAt d k raw) e)));
+      is-both (transferAt d k) (badMajor true (major d k) (pvAt d k raw)) (handing-over d k range) (λ on. record {
+        yes = λ e j r. false≢true (sym (good-major (major d k) (pvAt d k raw) (received on j r)) ∙ e);
+        no = λ e none. none (majorAt d k) (receives (major-good (major d k) (pvAt d k raw) e));
       })
 
   -- A1
 
-  root : readingAt d k .settings .mode1 .root ≡ bit 6 (wordOf d k 0)
-  root = rw (bits d k)
-
   bare : bit 6 (wordOf d k 0) ≡ false → pvAt d k raw ≡ raw
   unfolding pvOf
-  bare off = rw (root, off)
+  bare off = rw (read d k .mode1, off)
 
   rooted : bit 6 (wordOf d k 0) ≡ true → raw ≤ inputFull d k → Nearest (raw * inputFull d k) (pvAt d k raw)
   unfolding pvOf
   rooted on h =
-      let c = recordAt (d .numbers) k .state in
-      let most = input-scale (d .words) k (c .mode) (c .profile .segment) .high in
+      let most = input-scale (d .words) k (formerOf (carriedAt (d .numbers) k .state)) .high in
       let l : raw ≤ 65535 = omega (arith, h, most) in
-      rw (root, on) (root-exact (raw * inputFull d k) (omega (arith, mul-le-mul l most)))
+      rw (read d k .mode1, on) (root-exact (raw * inputFull d k) (omega (arith, mul-le-mul l most)))
 
   tested : Tests (sampleCases d k raw) (sampleRows d k raw)
   tested =
@@ -355,43 +330,14 @@ module _ (d : Desk) (k raw : ℕ) where
   unfolding sampleAnswer
   first = first-reported (sampleCases d k raw) (sampleRows d k raw) tested
 
--- the settings' groups have numbers of their own, and had one
-as-then : (memory loop carried digit modes ends times limits setpoint above transfer : Bool)
-    → numberThen (numberOf (firstOf ((memory ⇒ Memory) ∷ (loop ⇒ NoLoop) ∷ (carried ⇒ Record) ∷ (digit ⇒ Digit) ∷ ((modes || ends) ⇒ Setting) ∷ (times ⇒ Times)
-    ∷ (limits ⇒ Limits) ∷ (setpoint ⇒ Setpoint) ∷ (above ⇒ Above) ∷ (transfer ⇒ NoTransfer) ∷ [])))
-    ≡ numberOf (firstOf ((memory ⇒ Memory) ∷ (loop ⇒ NoLoop) ∷ (carried ⇒ Record) ∷ (digit ⇒ Digit) ∷ (modes ⇒ Setting) ∷ (ends ⇒ Setting) ∷ (times ⇒ Setting)
-    ∷ (limits ⇒ Setting) ∷ (setpoint ⇒ Setting) ∷ (above ⇒ Above) ∷ (transfer ⇒ NoTransfer) ∷ []))
-as-then true l c d m e t i s a x = refl
-as-then false true c d m e t i s a x = refl
-as-then false false true d m e t i s a x = refl
-as-then false false false true m e t i s a x = refl
-as-then false false false false true e t i s a x = refl
-as-then false false false false false true t i s a x = refl
-as-then false false false false false false true i s a x = refl
-as-then false false false false false false false true s a x = refl
-as-then false false false false false false false false true a x = refl
-as-then false false false false false false false false false true x = refl
-as-then false false false false false false false false false false true = refl
-as-then false false false false false false false false false false false = refl
-
-pub renumbered : (d : Desk) (k raw : ℕ) → numberThen (numberOf (sampleAnswer d k raw)) ≡ sampleThen d k (outputFull d k) raw
-unfolding sampleAnswer
-renumbered d k raw =
-    let r = readingAt d k in
-    let s = r .settings in
-    as-then (not (fittingOf d)) (noLoop k) (outOfRange (numbersAt (d .numbers) (slotOf k))) (s .baddigit || r .program .baddigit)
-    (badModes (s .mode1) (s .mode2 .unused) (s .alarms .hysteresis)) (r .program .highend) (badTimes (s .tuning)) (badLimits (s .limits) (outputFull d k))
-    (badSetpoint (isCascade (r .mode)) (inputFull d k) (s .stored .setpoint) (s .pointer) (r .remote)) (ltb (inputFull d k) raw)
-    (transferAt d k && badMajor (read d k raw) (pvAt d k raw))
-
 -- the answer to a record is that of the desk as the records before left it
-pub answer-at : (t : State) (before : List Item) (x : Item) (after : List Item)
+pub answer-at : (t : State) (before : List Record) (x : Record) (after : List Record)
     → getD (answersFor (t .desk) (before ++ (x ∷ after))) (length before) 0 ≡ numberFor (runOf t before .desk) x
 unfolding answersFor runOf
 answer-at t [] x after = refl
 answer-at t (y ∷ before) x after′ = answer-at (after t y) before x after′
 
-in-file : (file : List ℕ) (d : Desk) → fittingOf d ≡ true → (before : List Item) (k raw : ℕ) (after : List Item)
+in-file : (file : List ℕ) (d : Desk) → fittingOf d ≡ true → (before : List Record) (k raw : ℕ) (after : List Record)
     → recordsOf file ≡ before ++ (Sample k raw ∷ after)
     → FirstIn (sampleRows (runOf (begun d) before .desk) k raw) (getD (answersOf file d) (length before) 0)
 unfolding answersOf answerTo
@@ -407,5 +353,4 @@ ordered = record {
   pv = λ d k raw. (bare d k raw, rooted d k raw);
   forecasts = λ d k samples. subst (FirstIn (sampleRows d k 0)) (sym (forecasts d k samples .0)) (first d k 0);
   files = in-file;
-  renumbered = renumbered;
 }

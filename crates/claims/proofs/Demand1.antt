@@ -2,11 +2,11 @@
 use Prim.Native.Nat.{ℕ, suc, zero, _+_, _*_, _≤_, _<_}
 use native.Mathlib.Omega.{arith}
 use native.Mathlib.Nat.{zero-add, add-zero, add-suc, suc-add}
-use mathlib.Core.Path.{_≡_, refl, sym, _∙_}
+use mathlib.Core.Path.{_≡_, refl, sym, ap, _∙_}
 use mathlib.Core.Logic.{_≢_}
 use mathlib.Core.Bool.{Bool, true, false, cond, or-true}
 use mathlib.Core.List.{List, [], _∷_, _++_, append-assoc, append-nil}
-use lib.Dec.{ltb, lit≤}
+use lib.Dec.{ltb}
 use lib.ListN.{length, getD, set, length-set, length-append}
 use lib.Seq.{sets, getD-set-same, getD-set-other}
 use borrow.Author.Tests.{ne-eqb, lt-ltb, le-ltb, ltb-false}
@@ -14,7 +14,7 @@ use Rattle.reader.specs.declared.Record.{Record}
 use Rattle.reader.specs.File.{wordAt, wholeAt, recordAt, recordsFrom, recordsOf}
 use Rattle.reader.specs.File.Laws.{covered, spans-length, cut-at, whole-at, cut-last, by-records, every-record, records-step, spans-step, records-end}
 use Rattle.desk.specs.Desk.{Desk, fittingOf, resetDesk}
-use Rattle.desk.specs.Desk.Laws.{reset-fits}
+use Rattle.desk.specs.Desk.Laws.{reset-fits, reset-numbers}
 use Rattle.desk.specs.Lists.{store, sample}
 use Rattle.lines.specs.Lines.{lineText, lastText}
 use Rattle.session.specs.Session.{numberFor, leftFor, shownFor, State, begun, after, runOf, answersFor, refusalsIn, endedOf, leftOf, answersOf}
@@ -23,9 +23,8 @@ use Rattle.session.specs.Printed.{linesOf, bodyOf, tooLong, printedOf, roomFor,
 use Rattle.kexbardi_files.specs.Files.{filled, printLeft}
 use Rattle.claims.specs.Calls.{Answered}
 use Rattle.claims.specs.Demand1.{Whole, Demand1}
-use Rattle.claims.proofs.Calls.{small, told, called}
+use Rattle.claims.proofs.Calls.{told, called}
 use Rattle.claims.proofs.Causes.{answer-at, ordered}
-use Rattle.claims.proofs.Names.{names}
 
 -- ---- the answers of a file
 
@@ -38,12 +37,12 @@ answers-told file = by-records file Told end more
     Told at = (d : Desk) (i : ℕ) → Answered (getD (answersFor d (recordsFrom file at)) i 0)
 
     end : (at : ℕ) → length file ≤ at → Told at
-    end at h d i = rw (records-end file at h) (small (lit≤ tt))
+    end at h d i = rw (records-end file at h)
 
     more : (at : ℕ) → at < length file → Told (recordAt file at .next) → Told at
     more at h rest d zero =
         rw (records-step file at h)
-        (every-record (λ x. Answered (numberFor d x)) (λ address value. told d (store address value)) (λ k raw. told d (sample k raw)) (small (lit≤ tt)) (small (lit≤ tt)) (small (lit≤ tt)) file at)
+        (every-record (λ x. Answered (numberFor d x)) (λ address value. told d (store address value)) (λ k raw. told d (sample k raw)) refl refl refl file at)
     more at h rest d (suc i) = rw (records-step file at h) (rest (leftFor d (recordAt file at .item)) i)
 
 -- the desk behind one more record
@@ -58,7 +57,7 @@ numbers-told file d i = go (fittingOf d)
   where
     go : (b : Bool) → Answered (getD (cond b (answersFor d (recordsOf file)) []) i 0)
     go true = answers-told file 0 d i
-    go false = small (lit≤ tt)
+    go false = refl
 
 -- ---- the answers' buffer: values stored from a place on, as far as there is room
 
@@ -107,7 +106,7 @@ unfolding linesOf bodyOf runOf
 last-line t [] = refl
 last-line t (x ∷ xs) =
     let rest = after t x in
-    let line = lineText (t .count + 1) x (numberFor (t .desk) x) (shownFor (leftFor (t .desk) x .words) x) in
+    let line = lineText (t .count + 1) x (numberFor (t .desk) x) (shownFor (t .desk) x) in
     rw (last-line rest xs) (sym (append-assoc line (bodyOf rest xs) (lastText (runOf rest xs .count) (runOf rest xs .refused))))
 
 printed-lines : (file : List ℕ) → length file ≤ 65536
@@ -120,18 +119,18 @@ printed-lines file h =
     rw (le-ltb 65536 (length file) h, reset-fits) (last-line (begun resetDesk) (recordsOf file) ∙ rw (n, m))
 
 one-line : (t : State) (before : List Record) (x : Record) → let here = runOf t before in
-    bodyOf t (before ++ (x ∷ [])) ≡ bodyOf t before ++ lineText (here .count + 1) x (numberFor (here .desk) x) (shownFor (leftFor (here .desk) x .words) x)
+    bodyOf t (before ++ (x ∷ [])) ≡ bodyOf t before ++ lineText (here .count + 1) x (numberFor (here .desk) x) (shownFor (here .desk) x)
 unfolding bodyOf runOf
 one-line t [] x = append-nil _
 one-line t (y ∷ before) x =
-    let first = lineText (t .count + 1) y (numberFor (t .desk) y) (shownFor (leftFor (t .desk) y .words) y) in
+    let first = lineText (t .count + 1) y (numberFor (t .desk) y) (shownFor (t .desk) y) in
     let here = runOf (after t y) before in
     rw (one-line (after t y) before x)
-    (sym (append-assoc first (bodyOf (after t y) before) (lineText (here .count + 1) x (numberFor (here .desk) x) (shownFor (leftFor (here .desk) x .words) x))))
+    (sym (append-assoc first (bodyOf (after t y) before) (lineText (here .count + 1) x (numberFor (here .desk) x) (shownFor (here .desk) x))))
 
 numbered-line : (before : List Record) (x : Record) → let here = runOf (begun resetDesk) before .desk in
     bodyOf (begun resetDesk) (before ++ (x ∷ []))
-    ≡ bodyOf (begun resetDesk) before ++ lineText (length before + 1) x (numberFor here x) (shownFor (leftFor here x .words) x)
+    ≡ bodyOf (begun resetDesk) before ++ lineText (length before + 1) x (numberFor here x) (shownFor here x)
 numbered-line before x =
     let n : runOf (begun resetDesk) before .count ≡ length before = omega (arith, run-counts (begun resetDesk) before) in
     rw (← n) (one-line (begun resetDesk) before x)
@@ -176,7 +175,6 @@ demand-1 = record {
   counted = λ file d count refused fit.
       let c = run-counts (begun d) (recordsOf file) in
       rw fit (refl, omega (arith, c), answers-length d (recordsOf file) ∙ sym (omega (arith, c)), omega (arith, c));
-  refusals = (refl, λ l. omega arith, λ a l. rw (ne-eqb (suc a) 0 (λ e. omega (arith, e))) (omega arith));
   numbers = numbers-told;
   each = λ file d fit before x after e. (
     rw (fit, e) (answer-at (begun d) before x after),
@@ -189,6 +187,7 @@ demand-1 = record {
     λ h. sets-behind (answersOf file d) answers 0 i (omega arith),
   );
   memory = λ file d count refused answers unfit. rw unfit (refl, refl, refl);
+  fresh = (ap (λ (d : Desk). d .words) reset-numbers, ap (λ (d : Desk). d .numbers) reset-numbers);
   lines = printed-lines;
   line = numbered-line;
   no-line = refl;
@@ -198,5 +197,4 @@ demand-1 = record {
   program = printed-whole;
   calls = called;
   order = ordered;
-  names = names;
 }

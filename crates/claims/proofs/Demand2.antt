@@ -1,71 +1,47 @@
 -- Demand 2, proved.
 use Prim.Native.Nat.{ℕ, _+_, _≤_, _<_}
 use native.Mathlib.Omega.{arith}
-use mathlib.Core.Path.{_≡_, refl, sym, ap, _∙_}
+use mathlib.Core.Path.{_≡_, refl, sym, ap, _∙_, subst}
 use mathlib.Core.List.{List, [], _∷_, _++_}
-use mathlib.Core.Bool.{Bool, true, false, cond, _&&_}
+use mathlib.Core.Bool.{Bool, true, false, _&&_}
 use lib.IntN.{ℤ, pos}
 use lib.ListN.{length, getD, set}
 use borrow.Author.Tests.{eq-eqb, ne-eqb}
 use Rattle.refusals.specs.declared.Answer.{Answer}
 use Rattle.refusals.specs.declared.Answer.the-variants.{Accepted, Refused}
 use Rattle.refusals.specs.declared.Refusal.the-variants.{Record}
-use Rattle.refusals.specs.declared.Refusal.the-variants.{Transfer as NoTransfer}
-use Rattle.refusals.specs.Refusals.{numberOf, _⇒_, firstOf}
-use Rattle.refusals.specs.Refusals.Laws.{accepted-only, accepted-rest}
-use Rattle.table.specs.declared.reading.Reading.{Reading}
+use Rattle.refusals.specs.Refusals.{numberOf, _⇒_, firstOf, FirstIn}
+use Rattle.refusals.specs.Refusals.Laws.{accepted-only}
+use Rattle.reading.specs.declared.reading.Reading.{Reading}
 use Rattle.table.specs.Words.{baseOf, blockAt}
-use Rattle.table.specs.Words.Laws.{block-at}
-use Rattle.table.specs.declared.transfer.Major.{Major}
-use Rattle.table.specs.Transfers.{majorOf, majorIn}
-use Rattle.table.specs.Transfers.Laws.{major-local}
-use Rattle.table.specs.Reading.Laws.{numbered, reading-local}
+use Rattle.table.specs.Words.Laws.{block-at, block-length}
+use Rattle.reading.specs.Reading.{readingOf}
+use Rattle.measuring.specs.Measuring.{measuredOf}
+use Rattle.carried.specs.Former.{formerOf}
+use Rattle.reading.specs.Reading.Laws.{numbered, reading-own}
 use Rattle.carried.specs.declared.record.Carried.{Carried}
-use Rattle.carried.specs.Layout.{slotOf, outOfRange, recordFrom, numbersOf, numbersAt, recordAt}
-use Rattle.judging.specs.Judging.{readingCases, badMajor, transferCases}
-use Rattle.judging.specs.Judging.Laws.{passed, passing}
+use Rattle.carried.specs.Layout.{slotOf, outOfRange, recordFrom, numbersOf, numbersAt, carriedAt}
+use Rattle.carried.specs.Layout.Laws.{rows-in, in-rows, read-back}
+use Rattle.judging.specs.Judging.{readingCases}
 use Rattle.engine.specs.declared.stepping.Stepped.{Stepped}
-use Rattle.engine.specs.Sensing.{pvIn, setpointOf, targetOf, profiledOf, faultAfter, sensedOf}
+use Rattle.engine.specs.Sensing.{setpointOf, targetOf, profiledOf, faultAfter, sensedOf}
 use Rattle.engine.specs.Driving.{drivenOf}
 use Rattle.engine.specs.Writing.{statusWord, writtenOf, writtenTo}
+use Rattle.engine.specs.Writing.Laws.{Both, written-both}
 use Rattle.engine.specs.Steps.{stepOf}
 use Rattle.reader.specs.File.{recordsOf}
-use Rattle.desk.specs.Desk.{Desk, fittingOf, memoryCases, loopCases, leftBy, readingBy, readingAt, judgedCases, stepAt, marks, sampleDone, sampleAnswer, sampleLeft, lineOf}
-use Rattle.desk.specs.Desk.Laws.{fits, known-loop, judged-past, sampled, answer-ranged, done-lengths, major-there, own-numbers, own-words, own-block, major-word, other-words, other-numbers, marked-numbers}
+use Rattle.desk.specs.Desk.{Desk, fittingOf, leftBy, readingAt, stepAt, marks, sampleDone, sampleAnswer, sampleLeft, lineOf, pvAt}
+use Rattle.desk.specs.Desk.Laws.{sound, sampled, answer-ranged, done-lengths, major-there, own-numbers, own-words, own-block, major-word, other-words, other-numbers, marked-numbers}
 use Rattle.desk.specs.Lists.Laws.{by-answer, range-kept, range-behind}
 use Rattle.session.specs.Session.{begun as started, callsOf, leftOf}
 use Rattle.session.specs.Session.Laws.{run-desk}
 use Rattle.kexbardi.specs.Interface.{lineLeft}
 use Rattle.claims.specs.Turns.{Made, one, file, Turn, found, madeLeft, behind, behindAll}
-use Rattle.claims.specs.Calls.{transferAt, majorAt, pvAt}
-use Rattle.claims.specs.Demand2.{Acceptable, Other, Done, Agree, InRange, Demand2}
-use Rattle.claims.proofs.Calls.{read, to-major, passing-major}
+use Rattle.claims.specs.Calls.{transferAt, majorAt}
+use Rattle.claims.specs.Causes.{sampleRows}
+use Rattle.claims.specs.Demand2.{Other, Done, SameBut28, Agree, InRange, Demand2}
 use Rattle.claims.proofs.Turns.{unfit-behind, record-found, record-behind}
-
--- ---- when it is accepted
-
-acceptable : (d : Desk) (k raw : ℕ) → Acceptable d k raw → numberOf (sampleAnswer d k raw) ≡ 0
-acceptable d k raw a =
-    let good = passing-major d k raw (a .transfer) in
-    let e : sampleAnswer d k raw ≡ Accepted
-    = answer-ranged d k raw (a .memory) (a .loop .0) (a .loop .1) ∙ rw (a .carried) (judged-past (d .words) k (readingAt d k) raw (passing (readingAt d k) raw (a .reading)) ∙ rw good) in
-    ap numberOf e
-
-only-then : (d : Desk) (k raw : ℕ) → numberOf (sampleAnswer d k raw) ≡ 0 → Acceptable d k raw
-unfolding sampleAnswer
-only-then d k raw z =
-    let e = accepted-only (sampleAnswer d k raw) z in
-    let p = accepted-rest (memoryCases d) (loopCases (d .numbers) k ++ judgedCases (d .words) k (readingAt d k) raw) e in
-    let q = accepted-rest (loopCases (d .numbers) k) (judgedCases (d .words) k (readingAt d k) raw) (p .1) in
-    let j = accepted-rest (readingCases (readingAt d k) raw) (transferCases (transferAt d k) (read d k raw) (pvAt d k raw)) (q .1) in
-    let loop = known-loop (d .numbers) k (q .0) in
-    record {
-      memory = fits d (p .0);
-      loop = (loop .above, loop .below);
-      carried = loop .range;
-      reading = passed (readingAt d k) raw (j .0);
-      transfer = λ on. to-major d k raw (sampled d k raw e .transfer on);
-    }
+use Rattle.claims.proofs.Causes.{ordered}
 
 -- ---- what a sample leaves
 
@@ -90,7 +66,7 @@ handed-over d k raw e on =
     let a = accepted-only (sampleAnswer d k raw) e in
     let s = sampled d k raw a in
     let m = major-there d k raw s on in
-    let all : marks k (readingAt d k) (majorAt d k) ≡ true = rw (on, eq-eqb (majorAt d k) (majorAt d k) refl) in
+    let all : marks (readingAt d k) (majorAt d k) ≡ true = rw (on, eq-eqb (majorAt d k) (majorAt d k) refl) in
     rw a (m .output, major-word d k raw s on, marked-numbers d k raw s (majorAt d k) (m .above) (m .other) all)
 
 words-kept : (d : Desk) (k raw i : ℕ) → Other d k i → getD (sampleLeft d k raw .words) i 0 ≡ getD (d .words) i 0
@@ -108,7 +84,7 @@ records-kept d k raw j first other unmarked =
     by-answer (λ (e : Desk). numbersAt (e .numbers) (slotOf j) ≡ numbersAt (d .numbers) (slotOf j)) (sampleAnswer d k raw)
     (λ a. other-numbers d k raw (sampled d k raw a) j first other (none (transferAt d k) refl)) refl
   where
-    none : (b : Bool) → transferAt d k ≡ b → marks k (readingAt d k) j ≡ false
+    none : (b : Bool) → transferAt d k ≡ b → marks (readingAt d k) j ≡ false
     none true on = rw (on, ne-eqb (majorAt d k) j (λ e. unmarked on (sym e)))
     none false off = rw off
 
@@ -121,11 +97,10 @@ lengths-kept d k raw =
 
 -- ---- two loops that agree
 
--- two loops with the same 32 words show the same line
-line-block : (ws ws′ : List ℕ) (k k′ : ℕ) → blockAt ws (baseOf k) ≡ blockAt ws′ (baseOf k′) → lineOf ws k ≡ lineOf ws′ k′
-line-block ws ws′ k k′ e =
-    let at : (i : ℕ) → i < 32 → getD ws (baseOf k + i) 0 ≡ getD ws′ (baseOf k′ + i) 0
-    = λ i h. sym (block-at ws (baseOf k) i h) ∙ rw e (block-at ws′ (baseOf k′) i h) in
+-- two loops with the same words but for word 28 show the same line
+line-same : (ws ws′ : List ℕ) (k k′ : ℕ) → SameBut28 ws ws′ k k′ → lineOf ws k ≡ lineOf ws′ k′
+line-same ws ws′ k k′ same =
+    let at : (i : ℕ) → i < 28 → getD ws (baseOf k + i) 0 ≡ getD ws′ (baseOf k′ + i) 0 = λ i h. same i (omega arith) (λ e. omega arith) in
     rw (at 2 (omega arith), at 3 (omega arith), at 5 (omega arith), at 6 (omega arith))
 
 -- a step does not look at the loop's number
@@ -134,60 +109,54 @@ unfolding stepOf sensedOf targetOf setpointOf profiledOf faultAfter drivenOf wri
 step-numbered k r c raw = refl
 
 module _ (d d′ : Desk) (k k′ raw : ℕ) (agree : Agree d d′ k k′) where
-  carried-same : recordAt (d .numbers) k ≡ recordAt (d′ .numbers) k′
+  carried-same : carriedAt (d .numbers) k ≡ carriedAt (d′ .numbers) k′
   carried-same = ap recordFrom (agree .numbers)
 
   reading-same : readingAt d k ≡ numbered k (readingAt d′ k′)
   reading-same =
-      let state = recordAt (d .numbers) k .state in
-      reading-local (d .words) (d′ .words) k k′ (state .mode) (state .profile .segment) (agree .words) (agree .pointed) (agree .table)
-      ∙ ap (λ (c : Carried). numbered k (readingBy (d′ .words) k′ c)) carried-same
+      reading-own (d .words) (d′ .words) k k′ (formerOf (carriedAt (d .numbers) k .state)) (agree .words) (agree .pointed) (agree .major) (agree .limits) (agree .fault) (agree .table)
+      ∙ ap (λ (c : Carried). numbered k (readingOf (d′ .words) k′ (formerOf (c .state)))) carried-same
 
   abbrev r′ : Reading
   r′ = readingAt d′ k′
 
-  pointer-same : readingAt d k .settings .pointer ≡ r′ .settings .pointer
-  pointer-same = ap (λ (r : Reading). r .settings .pointer) reading-same
-
   transfer-same : transferAt d k ≡ transferAt d′ k′
   transfer-same = ap (λ (r : Reading). r .transfer) reading-same
 
-  major-same : transferAt d k ≡ true → majorAt d k ≡ majorAt d′ k′
-  major-same on = agree .major on ∙ ap (majorOf k′) pointer-same
-
-  -- N11: the major loop is read alike, where it is read
-  tested-same : (transferAt d k && badMajor (read d k raw) (pvAt d k raw)) ≡ (transferAt d k && badMajor (read d′ k′ raw) (pvAt d k raw))
-  tested-same = go (transferAt d k) refl
-    where
-      go : (b : Bool) → transferAt d k ≡ b → (b && badMajor (read d k raw) (pvAt d k raw)) ≡ (b && badMajor (read d′ k′ raw) (pvAt d k raw))
-      go false off = refl
-      go true on =
-          ap (λ (m : Major). badMajor m (pvAt d k raw))
-          (major-local (d .words) (d′ .words) k k′ (readingAt d k .settings .pointer) (agree .major on) (agree .limits on) ∙ ap (majorIn (d′ .words) k′) pointer-same)
-
-  judged-same : firstOf (judgedCases (d .words) k (readingAt d k) raw) ≡ firstOf (judgedCases (d′ .words) k′ r′ raw)
-  judged-same =
-      ap (λ (b : Bool). firstOf (readingCases (readingAt d k) raw ++ ((b ⇒ NoTransfer) ∷ []))) tested-same
-      ∙ ap (λ (r : Reading). firstOf (readingCases r raw ++ ((r .transfer && badMajor (read d′ k′ raw) (pvIn r raw) ⇒ NoTransfer) ∷ []))) reading-same
+  major-same : majorAt d k ≡ majorAt d′ k′
+  major-same = ap (λ (r : Reading). r .major .number) reading-same
 
   answer-same : sampleAnswer d k raw ≡ sampleAnswer d′ k′ raw
   answer-same =
       answer-ranged d k raw (agree .memory) (agree .loop .0) (agree .loop .1)
-      ∙ ap (λ (ns : List ℤ). firstOf ((outOfRange ns ⇒ Record) ∷ judgedCases (d .words) k (readingAt d k) raw)) (agree .numbers)
-      ∙ ap (λ (a : Answer). cond (outOfRange (numbersAt (d′ .numbers) (slotOf k′))) (Refused Record) a) judged-same
+      ∙ ap (λ (ns : List ℤ). firstOf ((outOfRange ns ⇒ Record) ∷ readingCases (readingAt d k) raw)) (agree .numbers)
+      ∙ ap (λ (r : Reading). firstOf ((outOfRange (numbersAt (d′ .numbers) (slotOf k′)) ⇒ Record) ∷ readingCases r raw)) reading-same
       ∙ sym (answer-ranged d′ k′ raw (agree .memory′) (agree .loop′ .0) (agree .loop′ .1))
 
   step-same : stepAt d k raw ≡ stepAt d′ k′ raw
   step-same =
-      ap (λ (r : Reading). stepOf r (recordAt (d .numbers) k) raw) reading-same
-      ∙ ap (λ (c : Carried). stepOf (numbered k (readingAt d′ k′)) c raw) carried-same
-      ∙ step-numbered k (readingAt d′ k′) (recordAt (d′ .numbers) k′) raw
+      ap (λ (r : Reading). stepOf r (carriedAt (d .numbers) k) (measuredOf r raw)) reading-same
+      ∙ ap (λ (c : Carried). stepOf (numbered k r′) c (pvAt d′ k′ raw)) carried-same
+      ∙ step-numbered k r′ (carriedAt (d′ .numbers) k′) (pvAt d′ k′ raw)
 
-  block-same : sampleAnswer d k raw ≡ Accepted → blockAt (sampleDone d k raw .words) (baseOf k) ≡ blockAt (sampleDone d′ k′ raw .words) (baseOf k′)
-  block-same a =
-      let same : writtenTo (blockAt (d .words) (baseOf k)) 0 (stepAt d k raw .written) ≡ writtenTo (blockAt (d′ .words) (baseOf k′)) 0 (stepAt d′ k′ raw .written)
-      = rw (agree .words, step-same) in
-      own-block d k raw (sampled d k raw a) ∙ same ∙ sym (own-block d′ k′ raw (sampled d′ k′ raw (sym answer-same ∙ a)))
+  -- both blocks have 32 words, and the same words but for word 28 are written into both
+  block-both : (i : ℕ) → i < 32 → (i ≡ 28 → ⊥) → Both i (blockAt (d .words) (baseOf k)) (blockAt (d′ .words) (baseOf k′))
+  block-both i few other = record {
+    size = block-length (d .words) (baseOf k) (omega (arith, sound d (agree .memory) .words, agree .loop .0, agree .loop .1))
+        ∙ sym (block-length (d′ .words) (baseOf k′) (omega (arith, sound d′ (agree .memory′) .words, agree .loop′ .0, agree .loop′ .1)));
+    same = block-at (d .words) (baseOf k) i few ∙ agree .words i few other ∙ sym (block-at (d′ .words) (baseOf k′) i few);
+  }
+
+  words-same : sampleAnswer d k raw ≡ Accepted → SameBut28 (sampleDone d k raw .words) (sampleDone d′ k′ raw .words) k k′
+  words-same a i few other =
+      let own = own-block d k raw (sampled d k raw a) in
+      let own′ = own-block d′ k′ raw (sampled d′ k′ raw (sym answer-same ∙ a)) in
+      sym (block-at (sampleDone d k raw .words) (baseOf k) i few)
+      ∙ ap (λ (l : List ℕ). getD l i 0) own
+      ∙ written-both 0 (stepAt d k raw .written) (block-both i few other) .same
+      ∙ ap (λ (s : Stepped). getD (writtenTo (blockAt (d′ .words) (baseOf k′)) 0 (s .written)) i 0) step-same
+      ∙ sym (ap (λ (l : List ℕ). getD l i 0) own′)
+      ∙ block-at (sampleDone d′ k′ raw .words) (baseOf k′) i few
 
   numbers-same : sampleAnswer d k raw ≡ Accepted
       → numbersAt (sampleDone d k raw .numbers) (slotOf k) ≡ numbersAt (sampleDone d′ k′ raw .numbers) (slotOf k′)
@@ -198,18 +167,18 @@ module _ (d d′ : Desk) (k k′ raw : ℕ) (agree : Agree d d′ k k′) where
 
   left-same : (a : Answer) → sampleAnswer d k raw ≡ a → let e = leftBy a (sampleDone d k raw) d in
       let e′ = leftBy a (sampleDone d′ k′ raw) d′ in
-      (blockAt (e .words) (baseOf k) ≡ blockAt (e′ .words) (baseOf k′)) × (numbersAt (e .numbers) (slotOf k) ≡ numbersAt (e′ .numbers) (slotOf k′))
-  left-same Accepted e = (block-same e, numbers-same e)
+      SameBut28 (e .words) (e′ .words) k k′ × (numbersAt (e .numbers) (slotOf k) ≡ numbersAt (e′ .numbers) (slotOf k′))
+  left-same Accepted e = (words-same e, numbers-same e)
   left-same (Refused why) e = (agree .words, agree .numbers)
 
-  words-alike : (blockAt (sampleLeft d k raw .words) (baseOf k) ≡ blockAt (sampleLeft d′ k′ raw .words) (baseOf k′))
+  words-alike : SameBut28 (sampleLeft d k raw .words) (sampleLeft d′ k′ raw .words) k k′
       × (numbersAt (sampleLeft d k raw .numbers) (slotOf k) ≡ numbersAt (sampleLeft d′ k′ raw .numbers) (slotOf k′))
   unfolding sampleLeft
   words-alike = let p = left-same (sampleAnswer d k raw) refl in rw (← answer-same) (p .0, p .1)
 
   line-alike : (line : List ℕ) → lineLeft d k raw line ≡ lineLeft d′ k′ raw line
   unfolding lineLeft
-  line-alike line = rw (line-block (sampleLeft d k raw .words) (sampleLeft d′ k′ raw .words) k k′ (words-alike .0), answer-same)
+  line-alike line = rw (line-same (sampleLeft d k raw .words) (sampleLeft d′ k′ raw .words) k k′ (words-alike .0), answer-same)
 
 -- ---- the ranges
 
@@ -217,8 +186,8 @@ module _ (k : ℕ) (above : 1 ≤ k) (below : k ≤ 16) where
   -- a call on memory of the right lengths
   made-range : (d : Desk) (m : Made) → fittingOf d ≡ true → InRange k d → InRange k (madeLeft d m)
   unfolding madeLeft leftOf
-  made-range d (one call) fit h = range-kept k above below d call h
-  made-range d (file bytes) fit h = rw (fit, run-desk (started d) (recordsOf bytes)) (range-behind k above below d (callsOf (recordsOf bytes)) h)
+  made-range d (one call) fit h = rows-in _ (range-kept k above below d call (in-rows _ h))
+  made-range d (file bytes) fit h = rw (fit, run-desk (started d) (recordsOf bytes)) (rows-in _ (range-behind k above below d (callsOf (recordsOf bytes)) (in-rows _ h)))
 
   turn-range : (d : Desk) (t : Turn) → InRange k d → InRange k (behind d t)
   turn-range d t h = go (fittingOf (found d t)) refl
@@ -234,8 +203,8 @@ module _ (k : ℕ) (above : 1 ≤ k) (below : k ≤ 16) where
 
 pub demand-2 : Demand2
 demand-2 = record {
-  accepted = acceptable;
-  only = only-then;
+  accepted = λ d k raw. let first = ordered .samples d k raw in
+      (λ none. ordered .alone d k raw (numberOf (sampleAnswer d k raw)) 0 first none, λ zero. subst (FirstIn (sampleRows d k raw)) zero first);
   exact = exactly;
   handed = handed-over;
   line = line-shown;
@@ -250,8 +219,9 @@ demand-2 = record {
         w .1,
         line-alike d d′ k k′ raw agree line,
         transfer-same d d′ k k′ raw agree,
-        major-same d d′ k k′ raw agree,
-        ap (λ (r : Reading). pvIn r raw) same,
+        λ _. major-same d d′ k k′ raw agree,
+        ap (λ (r : Reading). measuredOf r raw) same,
       );
+  back = read-back;
   ranges = λ d ts k above below h. all-ranges k above below d ts h;
 }

@@ -8,8 +8,8 @@ use Rattle.numbers.proofs.Examples as numbers
 use Rattle.reader.specs.File.{recordsOf}
 use Rattle.reader.proofs.Examples as reader
 use Rattle.table.specs.declared.mode.Mode.the-variants.{Manual, Automatic, Cascade}
-use Rattle.table.specs.Transfers.{majorOf}
-use Rattle.table.proofs.Examples as table
+use Rattle.reading.specs.Transfers.{majorOf}
+use Rattle.reading.proofs.Examples as table
 use Rattle.judging.proofs.Examples as judging
 use Rattle.profile.proofs.Examples as profile
 use Rattle.engine.proofs.Starred as starred
@@ -44,7 +44,7 @@ pub scales-read : map table.scales table.words
 scales-read = table.full-scales
 
 -- N7 to N9 at their edges
-pub settings-judged : let cases = judging.cases ++ judging.tables in map judging.answer cases ≡ map (λ (c : judging.Case). c .number) cases
+pub settings-judged : let cases = judging.cases ++ judging.tables in map (judging.answer-from Manual) cases ≡ map (λ (c : judging.Case). c .number) cases
 settings-judged = judging.computed
 
 -- N11 at its edges, from Automatic; from Manual and in Cascade the same sample is no transfer

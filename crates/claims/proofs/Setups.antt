@@ -1,15 +1,15 @@
 -- What is promised of a setup file, proved.
-use Prim.Native.Nat.{ℕ, suc, _+_, _*_, _%_, _≤_, _<_}
+use Prim.Native.Nat.{ℕ, suc, _+_, _%_, _≤_, _<_}
 use native.Mathlib.Omega.{arith}
 use native.Mathlib.Nat.{add-zero, zero-add}
-use mathlib.Core.Path.{_≡_, refl, sym, ap, _∙_}
+use mathlib.Core.Path.{_≡_, refl, sym, ap, subst, _∙_}
 use mathlib.Core.Bool.{Bool, true, false, cond, not}
 use mathlib.Core.List.{List, [], _∷_, _++_, append-assoc}
 use lib.Dec.{eqb}
 use lib.IntN.{ℤ, pos}
 use lib.ListN.{length, getD, replicate, length-append, length-replicate}
 use lib.Seq.{set-at, ext-getD}
-use borrow.Author.Tests.{eqb-true, ne-eqb, le-ltb}
+use borrow.Author.Tests.{eqb-true}
 use Rattle.carried.specs.Layout.{numberCount}
 use Rattle.table.specs.Words.Laws.{and-true}
 use Rattle.reader.specs.declared.Record.{Record}
@@ -22,9 +22,8 @@ use Rattle.setups.specs.Setup.{handedOn, bytesFrom, setupOf, storesFrom}
 use Rattle.setups.specs.Setup.Laws.{rebuiltFrom, bytes-below, bytes-length, setup-short, setup-read, rebuilt-length, rebuilt-at, rebuilt-bytes}
 use Rattle.session.specs.declared.running.Ended.the-variants.{Counts}
 use Rattle.session.specs.Session.{State, state, begun, after, runOf, endedOf, leftOf}
-use Rattle.session.specs.Printed.{linesOf, printedOf}
 use Rattle.claims.specs.Calls.{Reserved}
-use Rattle.claims.specs.Setups.{Reached, Agree, Rebuilt, HandedOn}
+use Rattle.claims.specs.Setups.{Reached, SameStored, Ascending, no-records, kept, Rebuilt, HandedOn}
 use Rattle.claims.proofs.Calls.{fitting, reserved, free, stored}
 
 -- ---- the stores carried out
@@ -73,14 +72,29 @@ module _ (ns : List ℤ) (fit : length ns ≡ numberCount) (m : ℕ) where
 false-true : false ≡ true → ⊥
 false-true e = let z : _≡_ {A = ℕ} 0 1 = cc in omega arith
 
--- which words are handed on
-which : (address value : ℕ) → address < 1024 → (handedOn address value ≡ true → Reached address × (value ≡ 0 → ⊥)) × (Reached address → (value ≡ 0 → ⊥) → handedOn address value ≡ true)
-which address value low = (
-  λ e.
-      let p = and-true (not (eqb value 0)) (not (engineWord address)) e in
-      ((low, λ l r. false-true (rw (reserved address l r) at (p .1))), λ z. false-true (rw z at (p .0))),
-  λ r some. rw (ne-eqb value 0 some, free address (r .1)),
-)
+-- a word that is handed on
+reached : (address value : ℕ) → address < 1024 → handedOn address value ≡ true → Reached address × (value ≡ 0 → ⊥)
+reached address value low e =
+    let p = and-true (not (eqb value 0)) (not (engineWord address)) e in
+    ((low, λ l r. false-true (rw (reserved address l r) at (p .1))), λ z. false-true (rw z at (p .0)))
+
+earlier : {ws : List ℕ} {from : ℕ} {xs : List Record} → Ascending ws (suc from) xs → Ascending ws from xs
+earlier no-records = no-records
+earlier {from = from} (kept at h r some more) = kept {from = from} at (omega arith) r some more
+
+ascends : (ws : List ℕ) (from : ℕ) (rest : List ℕ) → from + length rest ≡ 1024 → ((i : ℕ) → getD rest i 0 ≡ getD ws (from + i) 0) → Ascending ws from (storesFrom from rest)
+unfolding storesFrom
+ascends ws from [] size same = no-records
+ascends ws from (value ∷ rest) size same =
+    go (ascends ws (suc from) rest (omega arith) (λ i. same (suc i) ∙ ap (λ (n : ℕ). getD ws n 0) (omega arith))) (handedOn from value) refl
+  where
+    go : Ascending ws (suc from) (storesFrom (suc from) rest) → (b : Bool) → handedOn from value ≡ b
+        → Ascending ws from (cond b (Store from value ∷ storesFrom (suc from) rest) (storesFrom (suc from) rest))
+    go later false e = earlier later
+    go later true e =
+        let here : value ≡ getD ws from 0 = same 0 ∙ rw (add-zero from) in
+        let r = reached from value (omega arith) e in
+        subst (λ (v : ℕ). Ascending ws from (Store from v ∷ storesFrom (suc from) rest)) (sym here) (kept from (omega arith) (r .0) (λ z. r .1 (here ∙ z)) later)
 
 -- read from reset
 setup-run : (ws : List ℕ) → length ws ≡ 1024
@@ -112,7 +126,7 @@ rebuilds ws l =
     )
 
 -- where two memories agree, they are rebuilt alike
-agree-rebuilt : (ws vs : List ℕ) → length ws ≡ 1024 → length vs ≡ 1024 → Agree ws vs → rebuiltFrom 0 ws ≡ rebuiltFrom 0 vs
+agree-rebuilt : (ws vs : List ℕ) → length ws ≡ 1024 → length vs ≡ 1024 → SameStored ws vs → rebuiltFrom 0 ws ≡ rebuiltFrom 0 vs
 agree-rebuilt ws vs l k same =
     ext-getD 0 _ _ (rebuilt-length 0 ws ∙ l ∙ sym k ∙ sym (rebuilt-length 0 vs))
     (λ i h. rebuilt-at 0 ws i ∙ rw (zero-add i) (go i (omega (arith, rebuilt-length 0 ws)) (engineWord i) refl) ∙ sym (rebuilt-at 0 vs i))
@@ -121,7 +135,7 @@ agree-rebuilt ws vs l k same =
     go i h true e = refl
     go i h false e = same i (h, λ low r. false-true (sym e ∙ reserved i low r))
 
-same-only : (ws vs : List ℕ) → length ws ≡ 1024 → length vs ≡ 1024 → (setupOf ws ≡ setupOf vs → Agree ws vs) × (Agree ws vs → setupOf ws ≡ setupOf vs)
+same-only : (ws vs : List ℕ) → length ws ≡ 1024 → length vs ≡ 1024 → (setupOf ws ≡ setupOf vs → SameStored ws vs) × (SameStored ws vs → setupOf ws ≡ setupOf vs)
 same-only ws vs l k = (
   λ e i r.
       let run = rw (setup-run ws l, setup-run vs k) at (ap (λ (file : List ℕ). runOf (begun resetDesk) (recordsOf file)) e) in
@@ -130,22 +144,11 @@ same-only ws vs l k = (
   λ same. sym (rebuilt-bytes 0 ws) ∙ ap (bytesFrom 0) (agree-rebuilt ws vs l k same) ∙ rebuilt-bytes 0 vs,
 )
 
-long : (ws : List ℕ) → length ws ≡ 1024 → (length (setupOf ws) ≡ 8 * length (recordsOf (setupOf ws))) × (length (setupOf ws) ≤ 7680)
-    × (printedOf (setupOf ws) ≡ linesOf (begun resetDesk) (recordsOf (setupOf ws)))
-unfolding printedOf
-long ws l =
-    let short = setup-short ws l in
-    (rw (setup-read ws) (bytes-length 0 ws), short, rw (le-ltb 65536 (length (setupOf ws)) (omega arith)))
-
 pub handed-on : HandedOn
-unfolding storesFrom
 handed-on = record {
-  which = which;
-  records = setup-read;
-  no-store = λ address. refl;
-  stores = λ address value rest. refl;
+  stores = λ ws l. rw (setup-read ws) (ascends ws 0 ws (omega arith) (λ i. rw (zero-add i)));
   bytes = λ ws l small. bytes-below 0 ws (omega arith) small;
   rebuilds = rebuilds;
   only = same-only;
-  long = long;
+  long = λ ws l. (rw (setup-read ws) (bytes-length 0 ws), setup-short ws l);
 }

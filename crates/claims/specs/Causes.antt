@@ -1,57 +1,24 @@
 -- Which number a sample is refused with: for each the words and numbers that cause it, in the one order in which they are tested (O3, O4). A forecast
--- and a sample of a drill file go by the same rows. Of K7 alone is `renumbered`: the order and the numbers as they were, over today's conditions.
-use Prim.Native.Nat.{ℕ, _+_, _*_, _/_, _%_, _≤_, _<_}
+-- and a sample of a drill file go by the same rows. The words are read by the definitions of a single word: `bit`, `badDigit`, `bcd`, `unusedBits`.
+use Prim.Native.Nat.{ℕ, _+_, _*_, _≤_, _<_}
 use mathlib.Core.Path.{_≡_}
-use mathlib.Core.Bool.{true, false, cond, _||_}
+use mathlib.Core.Bool.{true, false, _||_}
 use mathlib.Core.Logic.{_⊎_}
 use mathlib.Core.List.{List, [], _∷_, _++_}
-use lib.Dec.{ltb, eqb}
 use lib.IntN.{ℤ, pos}
 use lib.ListN.{length, getD}
 use Rattle.numbers.specs.Roots.{Nearest}
-use Rattle.refusals.specs.declared.Refusal.the-variants.{Digit, Setting, Above}
-use Rattle.refusals.specs.Refusals.{numberOf, Case, _⇒_, firstOf, OneOf, Row, _when_, FirstIn}
+use Rattle.refusals.specs.Refusals.{numberOf, Row, _when_, FirstIn}
 use Rattle.reader.specs.declared.Record.{Record}
 use Rattle.reader.specs.declared.Record.the-variants.{Sample}
 use Rattle.reader.specs.File.{recordsOf}
-use Rattle.table.specs.declared.reading.Reading.{Reading}
-use Rattle.table.specs.Words.{bit, baseOf}
-use Rattle.table.specs.Modes.{isCascade}
-use Rattle.table.specs.Transfers.{majorIn}
-use Rattle.carried.specs.Layout.{slotOf, numbersAt}
-use Rattle.carried.specs.Layout.Laws.{Rows}
-use Rattle.judging.specs.Judging.{badModes, badTimes, badLimits, badSetpoint, transferCases}
-use Rattle.engine.specs.Sensing.{pvIn}
-use Rattle.desk.specs.Desk.{Desk, fittingOf, memoryCases, loopCases, readingAt, sampleAnswer, forecastAt}
+use Rattle.table.specs.Words.{bit, bcd, badDigit, any, baseOf}
+use Rattle.reading.specs.Settings.{unusedBits}
+use Rattle.carried.specs.Layout.{Rows, slotOf, numbersAt}
+use Rattle.desk.specs.Desk.{Desk, fittingOf, sampleAnswer, forecastAt, pvAt}
 use Rattle.session.specs.Session.{begun, runOf, answersOf}
 use Rattle.kexbardi_profiles.specs.Told.{toldBy}
-use Rattle.claims.specs.Calls.{pvAt}
 use Rattle.claims.specs.Formats.{wordOf, inputFull, outputFull}
-
--- ---- words
-
--- W3: a digit above 9; and the value of four digits
-abbrev pub HighDigit : ℕ → Type 0
-HighDigit w = OneOf ((9 < w / 4096 % 16) ∷ (9 < w / 256 % 16) ∷ (9 < w / 16 % 16) ∷ (9 < w % 16) ∷ [])
-
-abbrev pub hundredths : ℕ → ℕ
-hundredths w = w / 4096 % 16 * 1000 + w / 256 % 16 * 100 + w / 16 % 16 * 10 + w % 16
-
--- M2: a bit of mode 2 that has to be off
-abbrev pub StrayBit : ℕ → Type 0
-StrayBit w =
-    OneOf
-    ((bit 0 w ≡ true)
-    ∷ (bit 2 w ≡ true)
-    ∷ (bit 3 w ≡ true)
-    ∷ (bit 5 w ≡ true)
-    ∷ (bit 6 w ≡ true)
-    ∷ (bit 7 w ≡ true)
-    ∷ (bit 11 w ≡ true)
-    ∷ (bit 14 w ≡ true)
-    ∷ (bit 15 w ≡ true)
-    ∷ ((bit 10 w ≡ false) × ((bit 12 w ≡ true) ⊎ (bit 13 w ≡ true)))
-    ∷ [])
 
 -- ---- modes
 
@@ -94,26 +61,23 @@ InTable d k P = Tabled d k × ((i : ℕ) × (i < 8) × P i)
 -- N7: a digit above 9: in period, gain, reset or rate; in a slope or duration of the table
 abbrev pub wrongDigit : Desk → ℕ → List (Type 0)
 wrongDigit d k =
-    HighDigit (wordOf d k 7)
-    ∷ HighDigit (wordOf d k 8)
-    ∷ HighDigit (wordOf d k 9)
-    ∷ HighDigit (wordOf d k 10)
-    ∷ InTable d k (λ i. HighDigit (tableWord d k (4 * i + 1)) ⊎ HighDigit (tableWord d k (4 * i + 2)))
+    (any (badDigit (wordOf d k 7) ∷ badDigit (wordOf d k 8) ∷ badDigit (wordOf d k 9) ∷ badDigit (wordOf d k 10) ∷ []) ≡ true)
+    ∷ InTable d k (λ i. (badDigit (tableWord d k (4 * i + 1)) || badDigit (tableWord d k (4 * i + 2))) ≡ true)
     ∷ []
 
--- N8: velocity form with Bumpless II; bit 9 of mode 1; a bit of mode 2 that has to be off; the hysteresis of alarms that are watched; a ramp's end
+-- N8: velocity form with Bumpless II; bit 9 of mode 1; a bit of mode 2 that has to be off (M2); the hysteresis of alarms that are watched; a ramp's end
 abbrev pub wrongMode : Desk → ℕ → List (Type 0)
 wrongMode d k =
     ((bit 5 (wordOf d k 0) ≡ true) × (bit 3 (wordOf d k 0) ≡ true))
     ∷ (bit 9 (wordOf d k 0) ≡ true)
-    ∷ StrayBit (wordOf d k 1)
+    ∷ (unusedBits (wordOf d k 1) ≡ true)
     ∷ (((bit 12 (wordOf d k 0) ≡ true) ⊎ (bit 13 (wordOf d k 0) ≡ true)) × ((wordOf d k 18 < 1) ⊎ (200 < wordOf d k 18)))
     ∷ InTable d k (λ i. inputFull d k < tableWord d k (4 * i))
     ∷ []
 
 -- N12: the period in hundredths of a second is below 5; the reset time is 0
 abbrev pub wrongTime : Desk → ℕ → List (Type 0)
-wrongTime d k = (hundredths (wordOf d k 7) < 5) ∷ (hundredths (wordOf d k 9) ≡ 0) ∷ []
+wrongTime d k = (bcd (wordOf d k 7) < 5) ∷ (bcd (wordOf d k 9) ≡ 0) ∷ []
 
 -- N13: the low output limit is above the high one; that is above G
 abbrev pub wrongLimit : Desk → ℕ → List (Type 0)
@@ -143,35 +107,6 @@ sampleRows d k raw =
     ∷ (11 when ((Transferring d k × ((j : ℕ) → Receives d k j (pvAt d k raw) → ⊥)) ∷ []))
     ∷ []
 
--- ---- what was
-
--- one number for the five groups of settings, as they are today; G is the full scale that the output limits were tested against
-abbrev pub casesThen : Reading → ℕ → ℕ → List Case
-casesThen r G raw =
-    let s = r .settings in
-    let F = s .mode2 .input .scale in
-    ((s .baddigit || r .program .baddigit) ⇒ Digit)
-    ∷ (badModes (s .mode1) (s .mode2 .unused) (s .alarms .hysteresis) ⇒ Setting)
-    ∷ (r .program .highend ⇒ Setting)
-    ∷ (badTimes (s .tuning) ⇒ Setting)
-    ∷ (badLimits (s .limits) G ⇒ Setting)
-    ∷ (badSetpoint (isCascade (r .mode)) F (s .stored .setpoint) (s .pointer) (r .remote) ⇒ Setting)
-    ∷ (ltb F raw ⇒ Above)
-    ∷ []
-
--- the number that a sample of loop k was answered with
-abbrev pub sampleThen : Desk → ℕ → ℕ → ℕ → ℕ
-sampleThen d k G raw =
-    let r = readingAt d k in
-    numberOf
-    (firstOf
-    (memoryCases d
-    ++ (loopCases (d .numbers) k ++ (casesThen r G raw ++ transferCases (r .transfer) (majorIn (d .words) k (r .settings .pointer)) (pvIn r raw)))))
-
--- and today's number as it was
-abbrev pub numberThen : ℕ → ℕ
-numberThen n = cond (eqb n 12 || eqb n 13 || eqb n 14) 8 n
-
 pub record Ordered : Type 0 where
   -- O4: a sample is answered with the number of the first row of which a cause holds, with 0 where there is none, and no other number is that
   pub samples : (d : Desk) (k raw : ℕ) → FirstIn (sampleRows d k raw) (numberOf (sampleAnswer d k raw))
@@ -185,5 +120,3 @@ pub record Ordered : Type 0 where
   pub files : (file : List ℕ) (d : Desk) → fittingOf d ≡ true → (before : List Record) (k raw : ℕ) (after : List Record)
       → recordsOf file ≡ before ++ (Sample k raw ∷ after)
       → FirstIn (sampleRows (runOf (begun d) before .desk) k raw) (getD (answersOf file d) (length before) 0)
-  -- 12, 13 and 14 stand for 8, and no other answer differs: no sample is refused that was accepted, none accepted that was refused
-  pub renumbered : (d : Desk) (k raw : ℕ) → numberThen (numberOf (sampleAnswer d k raw)) ≡ sampleThen d k (outputFull d k) raw

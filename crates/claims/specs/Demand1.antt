@@ -1,12 +1,13 @@
 -- Demand 1. A drill file is any list of bytes. All of it is read: a record that the file cuts off is the last one, and behind every other record the
 -- next one is read, whether that record was carried out or refused. A refusal has a number of N1 to N14, a setup's alone N10, that of the first
 -- cause that holds (`Causes`), and changes no word and no number, in a file and in a direct call; a refused direct call leaves everything that was lent to it.
-use Prim.Native.Nat.{ℕ, suc, _+_, _≤_, _<_}
+use Prim.Native.Nat.{ℕ, _+_, _≤_, _<_}
 use mathlib.Core.Path.{_≡_}
 use mathlib.Core.Bool.{true, false}
 use mathlib.Core.List.{List, [], _∷_, _++_, flatten}
 use lib.Seq.{slice, sets}
-use lib.ListN.{length, getD}
+use lib.IntN.{pos}
+use lib.ListN.{length, getD, replicate}
 use Rattle.text.specs.Text.{bytes}
 use Rattle.refusals.specs.declared.Refusal.the-variants.{Cut, Kind, Length}
 use Rattle.reader.specs.declared.Record.{Record}
@@ -19,7 +20,6 @@ use Rattle.session.specs.Printed.{bodyOf, printedOf, roomFor, printedWithin}
 use Rattle.kexbardi_files.specs.Files.{ended, endedBy, answersLeft, filled, printLeft}
 use Rattle.claims.specs.Calls.{Answered, Called}
 use Rattle.claims.specs.Causes.{Ordered}
-use Rattle.claims.specs.Names.{Names}
 
 -- L2 to L7: what a record is whose n bytes stand whole behind its length, with the kind at `at`
 pub record Whole (file : List ℕ) (at n kind : ℕ) (item : Record) : Type 0 where
@@ -53,8 +53,7 @@ pub record Demand1 : Type 0 where
   -- Q5: on memory of the right lengths the answer is 0, there is an answer for each record, and `refused` counts those that are not 0
   pub counted : (file : List ℕ) (d : Desk) (count refused : ℕ) → fittingOf d ≡ true → let e = endedBy (endedOf file d) count refused in
       (e .number ≡ 0) × (e .count ≡ length (recordsOf file)) × (length (answersOf file d) ≡ e .count) × (e .refused ≡ refusalsIn (answersOf file d))
-  pub refusals : (refusalsIn [] ≡ 0) × ((l : List ℕ) → refusalsIn (0 ∷ l) ≡ refusalsIn l) × ((a : ℕ) (l : List ℕ) → refusalsIn (suc a ∷ l) ≡ suc (refusalsIn l))
-  -- every answer is 0 or a number of N1 to N14 but N10
+  -- every answer is a number that a call is answered with
   pub numbers : (file : List ℕ) (d : Desk) (i : ℕ) → Answered (getD (answersOf file d) i 0)
   -- O2, O5: each record is answered by the desk as those before left it, and carried out on it; where its answer is not 0, words and numbers stay
   pub each : (file : List ℕ) (d : Desk) → fittingOf d ≡ true → (before : List Record) (x : Record) (after : List Record)
@@ -73,12 +72,14 @@ pub record Demand1 : Type 0 where
       → (endedBy (endedOf file d) count refused ≡ ended 5 count refused) × (leftOf file d ≡ d) × (answersLeft file d answers ≡ answers)
   -- ---- a file printed
 
+  -- H3, L9: it begins with zeros
+  pub fresh : (resetDesk .words ≡ replicate 1024 0) × (resetDesk .numbers ≡ replicate 224 (pos 0))
   -- L9, L10: a line for each record, and a last line that counts the records and those that were refused
   pub lines : (file : List ℕ) → length file ≤ 65536
       → printedOf file ≡ bodyOf (begun resetDesk) (recordsOf file) ++ lastText (length (recordsOf file)) (refusalsIn (answersOf file resetDesk))
   pub line : (before : List Record) (x : Record) → let here = runOf (begun resetDesk) before .desk in
       bodyOf (begun resetDesk) (before ++ (x ∷ []))
-      ≡ bodyOf (begun resetDesk) before ++ lineText (length before + 1) x (numberFor here x) (shownFor (leftFor here x .words) x)
+      ≡ bodyOf (begun resetDesk) before ++ lineText (length before + 1) x (numberFor here x) (shownFor here x)
   pub no-line : bodyOf (begun resetDesk) [] ≡ []
   -- L11: of a longer file this alone
   pub too-long : (file : List ℕ) → 65536 < length file → printedOf file ≡ bytes "too long\n"
@@ -88,7 +89,6 @@ pub record Demand1 : Type 0 where
   pub no-room : (file out : List ℕ) (size : ℕ) → length out < roomFor file → printLeft file out size ≡ filled 5 out size
   -- the program's buffer has 655,460 bytes (`session::output_buffer`): always enough
   pub program : (file : List ℕ) → printedWithin 655460 file ≡ printedOf file
-  -- ---- direct calls, in which order a sample's refusals are tested, and what the names stand for
+  -- ---- direct calls, and in which order a sample's refusals are tested
   pub calls : Called
   pub order : Ordered
-  pub names : Names

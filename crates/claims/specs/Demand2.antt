@@ -1,32 +1,27 @@
--- Demand 2. A sample is accepted exactly where no refusal holds (O3). Then every word and every number is as A1 to A13 define it: the loop's words
--- and its record change, at a transfer the major loop's output word and mark, and nothing else (Q3). What comes of a sample is a matter of the raw PV,
--- the loop's 32 words, its record, the word that Cascade follows, the 32 words of its ramp/soak table and, at a transfer, which loop is the major one
--- and its two output limits (Q9): loop 9 set up like loop 1 answers alike. And a record in range never leaves its ranges, whatever is called (E8).
-use Prim.Native.Nat.{ℕ, _+_, _≤_}
+-- Demand 2. A sample is accepted exactly where no cause of a refusal holds (O3, `Causes`). Then every word and every number is as A1 to A13 define it: the
+-- loop's words and its record change, at a transfer the major loop's output word and mark, and nothing else (Q3). What comes of a sample is a matter of the
+-- raw PV, the loop's words, its record, the word that Cascade follows, the 32 words of its ramp/soak table, wherever it stands, and, at a transfer, which
+-- loop is the major one and its two output limits (Q9): loop 9 set up like loop 1 answers alike. And a record in range never leaves its ranges, whatever is
+-- called (E8).
+use Prim.Native.Nat.{ℕ, _+_, _≤_, _<_}
 use mathlib.Core.Path.{_≡_}
-use mathlib.Core.Bool.{true, false}
+use mathlib.Core.Bool.{true}
 use mathlib.Core.List.{List}
 use lib.IntN.{pos}
 use lib.ListN.{length, getD, set}
-use Rattle.refusals.specs.Refusals.{numberOf}
+use Rattle.refusals.specs.Refusals.{numberOf, FirstIn}
 use Rattle.table.specs.Words.{baseOf, blockAt}
 use Rattle.table.specs.Modes.{isCascade}
-use Rattle.table.specs.Transfers.{majorOf}
-use Rattle.table.specs.Reading.{tableOf}
-use Rattle.carried.specs.Layout.{slotOf, outOfRange, numbersOf, numbersAt}
-use Rattle.judging.specs.Judging.{Passed}
-use Rattle.desk.specs.Desk.{Desk, fittingOf, readingAt, stepAt, sampleAnswer, sampleLeft, lineOf}
+use Rattle.reading.specs.Programs.{faultOf}
+use Rattle.reading.specs.Transfers.{majorOf}
+use Rattle.reading.specs.Reading.{tableOf}
+use Rattle.carried.specs.declared.record.Carried.{Carried}
+use Rattle.carried.specs.Layout.{Rows, slotOf, recordFrom, numbersOf, numbersAt}
+use Rattle.desk.specs.Desk.{Desk, fittingOf, readingAt, stepAt, sampleAnswer, sampleLeft, lineOf, pvAt}
 use Rattle.kexbardi.specs.Interface.{lineLeft}
 use Rattle.claims.specs.Turns.{Turn, behindAll}
-use Rattle.claims.specs.Calls.{transferAt, majorAt, pvAt, ToMajor}
-
--- O3: no refusal holds: the memory has its lengths, there is such a loop, its record is in range, and what is read passes N7 to N9 and N11 to N14
-pub record Acceptable (d : Desk) (k raw : ℕ) : Type 0 where
-  pub memory : fittingOf d ≡ true
-  pub loop : (1 ≤ k) × (k ≤ 16)
-  pub carried : outOfRange (numbersAt (d .numbers) (slotOf k)) ≡ false
-  pub reading : Passed (readingAt d k) raw
-  pub transfer : transferAt d k ≡ true → ToMajor d k raw
+use Rattle.claims.specs.Calls.{transferAt, majorAt}
+use Rattle.claims.specs.Causes.{sampleRows}
 
 -- A12, A13: the address i is none of the eight words that a sample of loop k writes: 0, 2, 3, 4, 5, 6, 27 and 29; nor at a transfer the word pointed to
 pub record Other (d : Desk) (k i : ℕ) : Type 0 where
@@ -52,30 +47,36 @@ pub record Done (d e : Desk) (k raw : ℕ) : Type 0 where
   pub fault : getD (e .words) (baseOf k + 29) 0 ≡ stepAt d k raw .written .fault
   pub numbers : numbersAt (e .numbers) (slotOf k) ≡ numbersOf (stepAt d k raw .carried)
 
+-- the words of loop k and those of loop k′ are the same but for word 28
+abbrev pub SameBut28 : List ℕ → List ℕ → ℕ → ℕ → Type 0
+SameBut28 ws ws′ k k′ = (i : ℕ) → i < 32 → (i ≡ 28 → ⊥) → getD ws (baseOf k + i) 0 ≡ getD ws′ (baseOf k′ + i) 0
+
 -- Q9: loop k of one desk and loop k′ of another agree on what a sample depends on
 pub record Agree (d d′ : Desk) (k k′ : ℕ) : Type 0 where
   pub memory : fittingOf d ≡ true
   pub memory′ : fittingOf d′ ≡ true
   pub loop : (1 ≤ k) × (k ≤ 16)
   pub loop′ : (1 ≤ k′) × (k′ ≤ 16)
-  pub words : blockAt (d .words) (baseOf k) ≡ blockAt (d′ .words) (baseOf k′)
+  pub words : SameBut28 (d .words) (d′ .words) k k′
   pub numbers : numbersAt (d .numbers) (slotOf k) ≡ numbersAt (d′ .numbers) (slotOf k′)
   pub pointed : isCascade (readingAt d k .mode) ≡ true
       → getD (d .words) (readingAt d k .settings .pointer) 0 ≡ getD (d′ .words) (readingAt d k .settings .pointer) 0
-  pub table : readingAt d k .program .on ≡ true → blockAt (d .words) (tableOf (d .words) k) ≡ blockAt (d′ .words) (tableOf (d .words) k)
-  pub major : transferAt d k ≡ true → majorAt d k ≡ majorOf k′ (readingAt d k .settings .pointer)
-  pub limits : transferAt d k ≡ true → let j = majorAt d k in
+  -- G2: with bit 11 on, what is wrong with the address in word 28; and where there is a program its table, each at its own address
+  pub fault : readingAt d k .settings .mode1 .profile ≡ true → faultOf (tableOf (d .words) k) ≡ faultOf (tableOf (d′ .words) k′)
+  pub table : readingAt d k .program .on ≡ true → blockAt (d .words) (tableOf (d .words) k) ≡ blockAt (d′ .words) (tableOf (d′ .words) k′)
+  pub major : transferAt d k ≡ true → majorOf k (readingAt d k .settings .pointer) ≡ majorOf k′ (readingAt d k .settings .pointer)
+  pub limits : transferAt d k ≡ true → let j = majorOf k (readingAt d k .settings .pointer) in
       (j ≡ 0 → ⊥)
       → (getD (d .words) (baseOf j + 24) 0 ≡ getD (d′ .words) (baseOf j + 24) 0) × (getD (d .words) (baseOf j + 25) 0 ≡ getD (d′ .words) (baseOf j + 25) 0)
 
 -- H5: the record of loop k is in range
 abbrev pub InRange : ℕ → Desk → Type 0
-InRange k d = outOfRange (numbersAt (d .numbers) (slotOf k)) ≡ false
+InRange k d = Rows (numbersAt (d .numbers) (slotOf k))
 
 pub record Demand2 : Type 0 where
-  -- O3: accepted exactly where no refusal holds
-  pub accepted : (d : Desk) (k raw : ℕ) → Acceptable d k raw → numberOf (sampleAnswer d k raw) ≡ 0
-  pub only : (d : Desk) (k raw : ℕ) → numberOf (sampleAnswer d k raw) ≡ 0 → Acceptable d k raw
+  -- O3: accepted exactly where no cause of any refusal holds
+  pub accepted : (d : Desk) (k raw : ℕ) → (FirstIn (sampleRows d k raw) 0 → numberOf (sampleAnswer d k raw) ≡ 0)
+      × (numberOf (sampleAnswer d k raw) ≡ 0 → FirstIn (sampleRows d k raw) 0)
   -- A1 to A12, word for word and number for number. Q3: the line shows the words after it
   pub exact : (d : Desk) (k raw : ℕ) → numberOf (sampleAnswer d k raw) ≡ 0 → Done d (sampleLeft d k raw) k raw
   pub line : (d : Desk) (k raw : ℕ) (line : List ℕ) → numberOf (sampleAnswer d k raw) ≡ 0 → lineLeft d k raw line ≡ lineOf (sampleLeft d k raw .words) k
@@ -93,9 +94,10 @@ pub record Demand2 : Type 0 where
   -- Q9: two loops that agree answer alike, and leave the same words, the same record and the same line; and the same p to the same major loop, if any
   pub local : (d d′ : Desk) (k k′ raw : ℕ) (line : List ℕ) → Agree d d′ k k′
       → (sampleAnswer d k raw ≡ sampleAnswer d′ k′ raw)
-      × (blockAt (sampleLeft d k raw .words) (baseOf k) ≡ blockAt (sampleLeft d′ k′ raw .words) (baseOf k′))
+      × SameBut28 (sampleLeft d k raw .words) (sampleLeft d′ k′ raw .words) k k′
       × (numbersAt (sampleLeft d k raw .numbers) (slotOf k) ≡ numbersAt (sampleLeft d′ k′ raw .numbers) (slotOf k′))
       × (lineLeft d k raw line ≡ lineLeft d′ k′ raw line)
       × (transferAt d k ≡ transferAt d′ k′) × (transferAt d k ≡ true → majorAt d k ≡ majorAt d′ k′) × (pvAt d k raw ≡ pvAt d′ k′ raw)
-  -- E8: the ranges are never left
+  -- H1: a record is read back from its numbers. E8: the ranges are never left
+  pub back : (c : Carried) → recordFrom (numbersOf c) ≡ c
   pub ranges : (d : Desk) (ts : List Turn) (k : ℕ) → 1 ≤ k → k ≤ 16 → InRange k d → InRange k (behindAll d ts)

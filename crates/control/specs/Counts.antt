@@ -2,7 +2,7 @@
 use Prim.Native.Nat.{ℕ}
 use mathlib.Core.Bool.{cond}
 use Rattle.numbers.specs.Scales.{converted}
-use Rattle.table.specs.declared.settings.Mode2.{Mode2}
+use Rattle.reading.specs.declared.settings.Mode2.{Mode2}
 pub mod Laws
 
 -- M7: with bit 10 on a count of the input is converted, from full scale F to G; with bit 10 off it stays as it is

@@ -1,7 +1,7 @@
 -- What an accepted sample's settings, inputs and terms are known to be: premises of the functions, met by laws beside the definitions.
 use Prim.Native.Nat.{_^_, _≤_, _<_}
 use lib.IntN.{ℤ, natAbs}
-use Rattle.table.specs.declared.settings.Tuning.{Tuning}
+use Rattle.reading.specs.declared.settings.Tuning.{Tuning}
 use Rattle.control.specs.declared.terms.Inputs.{Inputs}
 use Rattle.control.specs.declared.terms.Terms.{Terms}
 use Rattle.control.specs.declared.forms.Drive.{Drive}

@@ -4,7 +4,7 @@ use mathlib.Core.Bool.{Bool, cond}
 use lib.Dec.{eqb}
 use lib.IntN.{ℤ, pos, negℤ, _*ℤ_}
 use Rattle.numbers.specs.Fractions.{Fraction, over, whole, negᶠ, roundTo}
-use Rattle.table.specs.declared.settings.Tuning.{Tuning}
+use Rattle.reading.specs.declared.settings.Tuning.{Tuning}
 use Rattle.control.specs.declared.terms.Inputs.{Inputs}
 use Rattle.control.specs.declared.terms.Terms.{Terms}
 pub mod Laws

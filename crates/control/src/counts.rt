@@ -1,5 +1,5 @@
 // M7: counts of the input in counts of the output.
-use table::Mode2;
+use reading::Mode2;
 ghost use mathlib.Core.Path.{_≡_};
 ghost use Prim.Native.Nat.{_<_};
 ghost use Rattle.control.specs.Counts.{outputCounts};

@@ -1,5 +1,5 @@
 // A7: the three terms, each rounded to the nearest unit.
-use table::Tuning;
+use reading::Tuning;
 ghost use mathlib.Core.Path.{_≡_};
 ghost use mathlib.Core.Bool.{false, cond};
 ghost use Prim.Native.Nat.{_*_, _^_, _≤_, _<_};
@@ -62,11 +62,14 @@ fn integral(c: u16, period: u16, reset: u16, minutes: bool, e: i64) -> i64
     }
 }
 
-// D, of the PV's change.
+// D, of the PV's change: none at rate 0.
 fn derivative(c: u16, rate: u16, period: u16, change: i64) -> i64
     requires { ⌜ (c ≤ 9999) × ((rate ≤ 9999) × ((0 < period) × (natAbs change ≤ 131070))) ⌝ }
     ensures { λ r. ⌜ r ≡ roundTo 262144 (exactD c rate period change) ⌝ }
 {
+    if rate == 0 {
+        return 0;
+    }
     term(c as u64 * rate as u64, change, 100 * period as u64)
 }
 

@@ -1,4 +1,4 @@
--- Demand 3 of one call and of a list of calls: the records stay tied to the sixteen plain loops, and each accepted sample is accurate.
+-- Demand 3 of one call and of a list of calls: the records stay tied to the sixteen plain loops, and each accepted sample is good.
 use Prim.Native.Nat.{ℕ, _+_, _≤_}
 use mathlib.Core.Path.{_≡_, refl, sym, ap, _∙_, subst}
 use mathlib.Core.Bool.{Bool, true, false, cond}
@@ -11,59 +11,55 @@ use Rattle.refusals.specs.declared.Answer.{Answer}
 use Rattle.refusals.specs.declared.Answer.the-variants.{Accepted, Refused}
 use Rattle.refusals.specs.Refusals.Laws.{never}
 use Rattle.table.specs.Words.{baseOf}
-use Rattle.table.specs.Reading.{readingOf}
-use Rattle.table.specs.Reading.Laws.{limit-low, limit-high}
+use Rattle.reading.specs.Reading.{readingOf}
+use Rattle.reading.specs.Reading.Laws.{reads}
 use Rattle.carried.specs.declared.record.State.{State}
-use Rattle.carried.specs.Layout.{recordAt, markedRecord}
+use Rattle.measuring.specs.Measuring.{measuredOf}
+use Rattle.carried.specs.Former.{formerOf}
+use Rattle.carried.specs.Layout.{carriedAt, markedRecord}
 use Rattle.plain.specs.Plain.{plainAfter, plainMarked}
-use Rattle.plain.specs.Plain.Laws.{Tied, start-tied, mark-tied, sample-good}
+use Rattle.plain.specs.Plain.Laws.{Tied, Good, start-tied, mark-tied, sample-good}
 use Rattle.desk.specs.Desk.{Desk, resetLeft, storeLeft, readingAt, marks, sampleDone, sampleAnswer, sampleLeft}
 use Rattle.desk.specs.Desk.Laws.{Sampled, sampled, own-words, own-record, other-record}
-use Rattle.desk.specs.Lists.{Call, reset, store, sample, answerTo, deskAfter, deskBehind, Plains, begunAll, readBy, sampledAll, fedBy, fed, plainsBehind, Accurate, Claim, Holds}
+use Rattle.desk.specs.Lists.{Call, reset, store, sample, answerTo, deskAfter, deskBehind, Plains, begunAll, readBy, sampledAll, fedBy, fed, plainsBehind, Claim, Holds}
 
 -- the records of the sixteen loops, each tied to its plain loop
 abbrev pub TiedAll : List ℤ → Plains → Type 0
-TiedAll ns qs = (k : ℕ) → 1 ≤ k → k ≤ 16 → Tied (recordAt ns k) (qs k)
+TiedAll ns qs = (k : ℕ) → 1 ≤ k → k ≤ 16 → Tied (carriedAt ns k) (qs k)
 
 -- at the start
 pub all-begun : (ns : List ℤ) → TiedAll ns (begunAll ns)
-all-begun ns k above below = start-tied (recordAt ns k)
+all-begun ns k above below = start-tied (carriedAt ns k)
 
 module _ (d : Desk) (qs : Plains) (tied : TiedAll (d .numbers) qs) where
   -- an accepted sample of loop k itself
   own : (k raw : ℕ) → Sampled d k raw
       → let base = baseOf k in
-      let q′ = plainAfter (qs k) (readBy qs d k) raw in
-      Accurate (getD (d .words) (base + 24) 0) (getD (d .words) (base + 25) 0) (getD (sampleDone d k raw .words) (base + 5) 0) q′
-      × Tied (recordAt (sampleDone d k raw .numbers) k) q′
+      let q′ = plainAfter (qs k) (readBy qs d k) (measuredOf (readBy qs d k) raw) in
+      Good (getD (sampleDone d k raw .words) (base + 5) 0) (getD (d .words) (base + 24) 0) (getD (d .words) (base + 25) 0) q′
+      × Tied (carriedAt (sampleDone d k raw .numbers) k) q′
   own k raw s =
       let base = baseOf k in
-      let c = recordAt (d .numbers) k in
+      let c = carriedAt (d .numbers) k in
       let t = tied k (s .above) (s .below) in
       let good = sample-good (s .reading) (s .carried) (qs k) t in
       let word = own-words d k raw s .output in
+      let by-words = reads (d .words) k (formerOf (c .state)) in
       let Goal : State → Type 0
-      = λ state. let q′ = plainAfter (qs k) (readingOf (d .words) k (state .mode) (state .profile .segment)) raw in
-      Accurate (getD (d .words) (base + 24) 0) (getD (d .words) (base + 25) 0) (getD (sampleDone d k raw .words) (base + 5) 0) q′
-      × Tied (recordAt (sampleDone d k raw .numbers) k) q′ in
-      subst Goal (t .state) (
-        record {
-          low = rw (word, ← limit-low (d .words) k (c .state .mode) (c .state .profile .segment)) (good .0 .inside .low);
-          high = rw (word, ← limit-high (d .words) k (c .state .mode) (c .state .profile .segment)) (good .0 .inside .high);
-          near = λ h. rw word (good .0 .near h);
-        },
-        rw (own-record d k raw s) (good .1),
-      )
+      = λ state. let r = readingOf (d .words) k (formerOf state) in let q′ = plainAfter (qs k) r (measuredOf r raw) in
+      Good (getD (sampleDone d k raw .words) (base + 5) 0) (getD (d .words) (base + 24) 0) (getD (d .words) (base + 25) 0) q′
+      × Tied (carriedAt (sampleDone d k raw .numbers) k) q′ in
+      subst Goal (t .state) (rw (word, ← by-words .low, ← by-words .high) (good .0), rw (own-record d k raw s) (good .1))
 
   -- one of another loop leaves the record of loop k, or marks it as it marks its plain loop
   other : (j raw k : ℕ) → 1 ≤ k → k ≤ 16 → (j ≡ k → ⊥) → Sampled d j raw
-      → Tied (recordAt (sampleDone d j raw .numbers) k) (cond (marks j (readBy qs d j) k) (plainMarked (qs k)) (qs k))
+      → Tied (carriedAt (sampleDone d j raw .numbers) k) (cond (marks (readBy qs d j) k) (plainMarked (qs k)) (qs k))
   other j raw k above below ne s =
       let same : readingAt d j ≡ readBy qs d j
-      = ap (λ (state : State). readingOf (d .words) j (state .mode) (state .profile .segment)) (tied j (s .above) (s .below) .state) in
-      rw (other-record d j raw s k above (λ e. ne (sym e)) below, ← same) (go (marks j (readingAt d j) k))
+      = ap (λ (state : State). readingOf (d .words) j (formerOf state)) (tied j (s .above) (s .below) .state) in
+      rw (other-record d j raw s k above (λ e. ne (sym e)) below, ← same) (go (marks (readingAt d j) k))
     where
-      go : (b : Bool) → Tied (cond b (markedRecord (recordAt (d .numbers) k)) (recordAt (d .numbers) k)) (cond b (plainMarked (qs k)) (qs k))
+      go : (b : Bool) → Tied (cond b (markedRecord (carriedAt (d .numbers) k)) (carriedAt (d .numbers) k)) (cond b (plainMarked (qs k)) (qs k))
       go true = mark-tied (tied k above below)
       go false = tied k above below
 
@@ -83,12 +79,12 @@ module _ (d : Desk) (qs : Plains) (tied : TiedAll (d .numbers) qs) where
 
   -- an accepted sample, of each loop
   accepted : (j raw : ℕ) → sampleAnswer d j raw ≡ Accepted → (k : ℕ) → 1 ≤ k → k ≤ 16
-      → Claim k d (sampledAll qs d j raw k) (sample j raw) × Tied (recordAt (sampleDone d j raw .numbers) k) (sampledAll qs d j raw k)
+      → Claim k d (sampledAll qs d j raw k) (sample j raw) × Tied (carriedAt (sampleDone d j raw .numbers) k) (sampledAll qs d j raw k)
   unfolding Claim sampledAll answerTo deskAfter sampleLeft
   accepted j raw e k above below = go (eqb j k) refl
     where
       go : (t : Bool) → eqb j k ≡ t
-          → Claim k d (sampledAll qs d j raw k) (sample j raw) × Tied (recordAt (sampleDone d j raw .numbers) k) (sampledAll qs d j raw k)
+          → Claim k d (sampledAll qs d j raw k) (sample j raw) × Tied (carriedAt (sampleDone d j raw .numbers) k) (sampledAll qs d j raw k)
       go false f =
           let ne = eqb-false j k f in
           (λ same ok. absurd (ne same), rw f (other j raw k above below ne (sampled d j raw e)))

@@ -3,7 +3,7 @@
 use Prim.Native.Nat.{ℕ, _+_}
 use mathlib.Core.Path.{_≡_, refl}
 use mathlib.Core.Bool.{Bool, true, false, cond}
-use mathlib.Core.List.{List, [], _∷_, map, flatten}
+use mathlib.Core.List.{List, [], _∷_, map}
 use lib.Dec.{eqb}
 use lib.ListN.{getD, set}
 use Rattle.numbers.specs.Limits.{clampBy}
@@ -12,11 +12,11 @@ use Rattle.numbers.specs.Roots.{rootWithin, rootOf}
 use Rattle.numbers.specs.Fractions.{over, _+ᶠ_, negᶠ, ltᶠ, roundTo}
 use Rattle.refusals.specs.Refusals.{numberOf}
 use Rattle.table.specs.Words.{bcd, badDigit, baseOf}
-use Rattle.table.specs.Settings.{mode2Of, badDigits, tuningOf, settingsOf}
-use Rattle.table.specs.Programs.{faultOf, pairAt, anyBelow, badDigitIn, highEndIn, noProgram, programOf}
-use Rattle.table.specs.Transfers.{majorOf, limitsAt, majorIn}
-use Rattle.table.specs.Transfers.{transfers as isTransfer}
-use Rattle.table.specs.Reading.{modeAfter, remoteOf, readingOf}
+use Rattle.reading.specs.Settings.{mode2Of, badDigits, tuningOf, settingsOf}
+use Rattle.reading.specs.Programs.{faultOf, pairAt, anyBelow, badDigitIn, highEndIn, noProgram, programOf}
+use Rattle.reading.specs.Transfers.{majorOf, limitsAt, majorIn}
+use Rattle.reading.specs.Transfers.{transfers as isTransfer}
+use Rattle.reading.specs.Reading.{modeAfter, remoteOf, readingOf}
 use Rattle.control.specs.Counts.{outputCounts}
 use Rattle.control.specs.Errors.{inDeadband, squaredOver, errorOf}
 use Rattle.control.specs.Terms.{exactP, exactI, exactD, exactTerms, termsOf}
@@ -27,13 +27,14 @@ use Rattle.profile.specs.Moves.{movedBy as profileMoved}
 use Rattle.profile.specs.Flags.{deviates, flagsOf}
 use Rattle.profile.specs.Samples.{sampledBy}
 use Rattle.alarms.specs.Status.{levelsOf, statusOf}
-use Rattle.carried.specs.Layout.{resetRecord, outOfRange, numbersOf, profileFrom, recordFrom}
-use Rattle.engine.specs.Sensing.{pvOf, setpointOf, changed, entering, runsOn, targetOf, profiledOf, faultAfter, errorIn, sensedOf}
+use Rattle.carried.specs.Layout.{outOfRange, numbersOf, profileFrom, recordFrom}
+use Rattle.measuring.specs.Measuring.{pvOf}
+use Rattle.engine.specs.Sensing.{setpointOf, changed, entering, runsOn, targetOf, profiledOf, faultAfter, errorIn, sensedOf}
 use Rattle.engine.specs.Driving.{heldOf, startOf, keptIn, pastOf, positionInputs, velocityInputs, termsIn, movedIn, movedOf, drivenOf}
 use Rattle.engine.specs.Writing.{outputWord, biasWord, statusWord, writtenOf, nextOf, writtenTo}
 use Rattle.engine.specs.Steps.{stepOf}
 use Rattle.plain.specs.Exact.{exactSum, exactOutput, exactBias}
-use Rattle.plain.specs.Plain.{Plain, begun, countAfter, movedBy, plainAfter, plainMarked}
+use Rattle.plain.specs.Plain.{Plain, begun, countAfter, exactMoved, plainAfter, plainMarked}
 use Rattle.desk.specs.Desk.{Desk, lent, fittingOf, noLoop, resetDesk, resetAnswer, resetLeft, storeAnswer, storeLeft, transferLeft, doneBy, sampleAnswer, sampleLeft}
 use Rattle.desk.specs.Lists.{Call, reset, store, sample, answerTo, deskAfter, Plains, begunAll, sampledAll, fed}
 
@@ -159,5 +160,5 @@ transfers =
     ∷ []
 
 pub computed : map from-reset (mixed ∷ transfers ∷ []) ≡ map (map expected) (mixed ∷ transfers ∷ [])
-unfolding faultOf pairAt anyBelow badDigitIn highEndIn programOf commandOf withHold handedOver joggedOf toward rampedTo rampedBy soakedBy profileMoved workedBy advancedBy deviates flagsOf runsOn profiledOf sampledBy noProgram faultAfter profileFrom clampBy halfUp halfAway rootWithin rootOf over _+ᶠ_ negᶠ ltᶠ roundTo bcd badDigit modeAfter mode2Of badDigits tuningOf settingsOf remoteOf isTransfer majorOf limitsAt majorIn readingOf inDeadband squaredOver errorOf outputCounts exactP exactI exactD exactTerms termsOf outsideOf positionOf velocityOf apart levelsOf statusOf resetRecord pvOf setpointOf changed entering heldOf startOf targetOf errorIn sensedOf keptIn pastOf positionInputs velocityInputs termsIn movedIn movedOf drivenOf outputWord biasWord statusWord writtenOf nextOf stepOf writtenTo exactSum exactOutput exactBias begun countAfter movedBy plainAfter plainMarked outOfRange numbersOf recordFrom flatten fittingOf noLoop resetDesk resetAnswer resetLeft storeAnswer storeLeft transferLeft doneBy sampleAnswer sampleLeft answerTo deskAfter sampledAll fed expected rows pair from-reset set-up step writing mixed both cascade transfers
+unfolding faultOf pairAt anyBelow badDigitIn highEndIn programOf commandOf withHold handedOver joggedOf toward rampedTo rampedBy soakedBy profileMoved workedBy advancedBy deviates flagsOf runsOn profiledOf sampledBy noProgram faultAfter profileFrom clampBy halfUp halfAway rootWithin rootOf over _+ᶠ_ negᶠ ltᶠ roundTo bcd badDigit modeAfter mode2Of badDigits tuningOf settingsOf remoteOf isTransfer majorOf limitsAt majorIn readingOf inDeadband squaredOver errorOf outputCounts exactP exactI exactD exactTerms termsOf outsideOf positionOf velocityOf apart levelsOf statusOf pvOf setpointOf changed entering heldOf startOf targetOf errorIn sensedOf keptIn pastOf positionInputs velocityInputs termsIn movedIn movedOf drivenOf outputWord biasWord statusWord writtenOf nextOf stepOf writtenTo exactSum exactOutput exactBias begun countAfter exactMoved plainAfter plainMarked outOfRange numbersOf recordFrom fittingOf noLoop resetDesk resetAnswer resetLeft storeAnswer storeLeft transferLeft doneBy sampleAnswer sampleLeft answerTo deskAfter sampledAll fed expected rows pair from-reset set-up step writing mixed both cascade transfers
 computed = refl

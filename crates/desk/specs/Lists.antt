@@ -1,19 +1,21 @@
 -- Lists of calls on a desk (E1), and what demand 3 claims of each (E2, E6): the sixteen plain loops are fed beside the desk.
-use Prim.Native.Nat.{ℕ, _+_, _≤_, _<_}
+use Prim.Native.Nat.{ℕ, _+_}
 use mathlib.Core.Path.{_≡_}
 use mathlib.Core.Bool.{cond}
 use mathlib.Core.List.{List, [], _∷_}
 use lib.Dec.{eqb}
-use lib.IntN.{ℤ, pos}
+use lib.IntN.{ℤ}
 use lib.ListN.{getD}
-use Rattle.numbers.specs.Fractions.{whole, Near}
 use Rattle.refusals.specs.declared.Answer.{Answer}
 use Rattle.refusals.specs.declared.Answer.the-variants.{Accepted, Refused}
-use Rattle.table.specs.declared.reading.Reading.{Reading}
+use Rattle.reading.specs.declared.reading.Reading.{Reading}
 use Rattle.table.specs.Words.{baseOf}
-use Rattle.table.specs.Reading.{readingOf}
-use Rattle.carried.specs.Layout.{recordAt}
-use Rattle.plain.specs.Plain.{Plain, begun, plainAfter, plainMarked, tolerance}
+use Rattle.reading.specs.Reading.{readingOf}
+use Rattle.measuring.specs.Measuring.{measuredOf}
+use Rattle.carried.specs.Former.{formerOf}
+use Rattle.carried.specs.Layout.{carriedAt}
+use Rattle.plain.specs.Plain.{Plain, begun, plainAfter, plainMarked}
+use Rattle.plain.specs.Plain.Laws.{Good}
 use Rattle.desk.specs.Desk.{Desk, marks, resetAnswer, resetLeft, storeAnswer, storeLeft, sampleAnswer, sampleLeft}
 pub mod Laws
 
@@ -47,17 +49,17 @@ Plains = ℕ → Plain
 
 -- E3: each begins with its loop's record
 abbrev pub begunAll : List ℤ → Plains
-begunAll ns k = begun (recordAt ns k)
+begunAll ns k = begun (carriedAt ns k)
 
--- E3: what a sample of loop j reads, the carried mode and segment being those of its plain loop
+-- E3: what a sample of loop j reads, its past being that of its plain loop
 abbrev pub readBy : Plains → Desk → ℕ → Reading
-readBy qs d j = readingOf (d .words) j (qs j .state .mode) (qs j .state .profile .segment)
+readBy qs d j = readingOf (d .words) j (formerOf (qs j .state))
 
 -- E3: an accepted sample of loop j moves its plain loop, and one that is a transfer marks that of the major loop; the others stay
 unfoldable pub sampledAll : Plains → Desk → ℕ → ℕ → Plains
 sampledAll qs d j raw k =
     let r = readBy qs d j in
-    cond (eqb j k) (plainAfter (qs k) r raw) (cond (marks j r k) (plainMarked (qs k)) (qs k))
+    cond (eqb j k) (plainAfter (qs k) r (measuredOf r raw)) (cond (marks r k) (plainMarked (qs k)) (qs k))
 
 -- E3: an accepted reset begins all of them anew; what is refused, and a store, leaves them
 abbrev pub fedBy : Plains → Desk → Answer → Call → Plains
@@ -77,20 +79,14 @@ plainsBehind qs d (call ∷ calls) = plainsBehind (fed qs d call) (deskAfter d c
 
 -- ---- the claim
 
--- E2: an output word inside the limits that its sample read. E6: where n is above 0, it is near the exact output
-pub record Accurate (lo hi word : ℕ) (q : Plain) : Type 0 where
-  pub low : lo ≤ word
-  pub high : word ≤ hi
-  pub near : 0 < q .n → Near (tolerance (q .n)) (whole (pos word)) (q .output)
-
--- E2, E6 of one call, q being the plain loop after it: an accepted sample of loop k is accurate. Words 24 and 25 are its limits, word 5 its output
+-- E2, E6 of one call, q being the plain loop after it: an accepted sample of loop k is good. Word 5 is its output, words 24 and 25 the limits that it read
 unfoldable pub Claim : ℕ → Desk → Plain → Call → Type 0
 Claim k d q reset = Unit {0}
 Claim k d q (store address value) = Unit {0}
 Claim k d q (sample j raw) =
     j ≡ k → answerTo d (sample j raw) ≡ Accepted
     → let base = baseOf k in
-    Accurate (getD (d .words) (base + 24) 0) (getD (d .words) (base + 25) 0) (getD (deskAfter d (sample j raw) .words) (base + 5) 0) q
+    Good (getD (deskAfter d (sample j raw) .words) (base + 5) 0) (getD (d .words) (base + 24) 0) (getD (d .words) (base + 25) 0) q
 
 -- E1: and of every call of a list
 unfoldable pub Holds : ℕ → Plains → Desk → List Call → Type 0

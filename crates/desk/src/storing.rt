@@ -3,17 +3,14 @@ use crate::memory::fitting;
 use refusals::Answer;
 use refusals::Refusal;
 use table::BIAS;
+use table::FIRST_FREE;
+use table::LAST_ADDRESS;
 use table::LOOP_WORDS;
 use table::PROFILE_FAULT;
 use table::PV;
 use table::STATUS;
-use table::WORDS;
 ghost use mathlib.Core.Path.{_≡_};
 ghost use Rattle.desk.specs.Desk.{lent, engineWord, storeAnswer, storeLeft};
-
-const FIRST_FREE: u64 = 512; // words from here on belong to no loop
-
-const LAST_ADDRESS: u64 = WORDS as u64 - 1;
 
 // N6: the words of a loop that no store reaches: PV, bias and status, which samples write, and word 29.
 pub fn engine_word(address: u64) -> bool

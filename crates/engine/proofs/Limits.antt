@@ -6,7 +6,7 @@ use lib.Dec.{lit<}
 use lib.IntN.{ℤ}
 use Rattle.numbers.specs.Whole.{linear, abs}
 use Rattle.numbers.specs.Rounding.Laws.{half-up-low, half-up-high}
-use Rattle.table.specs.declared.settings.Settings.{Settings}
+use Rattle.reading.specs.declared.settings.Settings.{Settings}
 use Rattle.control.specs.declared.forms.Drive.{Drive}
 use Rattle.carried.specs.declared.record.Past.{Past}
 use Rattle.engine.specs.Driving.{heldOf, movedOf}

@@ -2,6 +2,7 @@
 use Prim.Native.Nat.{ℕ}
 use mathlib.Core.Path.{_≡_, refl}
 use mathlib.Core.List.{List, [], _∷_, _++_, map}
+use lib.IntN.{pos}
 use lib.ListN.{set, replicate, getD}
 use Rattle.numbers.specs.Limits.{clampBy}
 use Rattle.numbers.specs.Rounding.{halfUp, halfAway}
@@ -11,12 +12,15 @@ use Rattle.numbers.specs.Fractions.{over, negᶠ, roundTo}
 use Rattle.refusals.specs.declared.Answer.{Answer}
 use Rattle.refusals.specs.declared.Answer.the-variants.{Accepted, Refused}
 use Rattle.refusals.specs.Refusals.{firstOf}
-use Rattle.table.specs.declared.reading.Reading.{Reading}
+use Rattle.reading.specs.declared.reading.Reading.{Reading}
 use Rattle.table.specs.Words.{bcd, badDigit}
-use Rattle.table.specs.Settings.{mode2Of, badDigits, tuningOf, settingsOf}
-use Rattle.table.specs.Programs.{faultOf, pairAt, anyBelow, badDigitIn, highEndIn, noProgram, programOf}
-use Rattle.table.specs.Transfers.{transfers}
-use Rattle.table.specs.Reading.{modeAfter, remoteOf, readingOf}
+use Rattle.reading.specs.Settings.{mode2Of, badDigits, tuningOf, settingsOf}
+use Rattle.reading.specs.Programs.{faultOf, pairAt, anyBelow, badDigitIn, highEndIn, noProgram, programOf}
+use Rattle.reading.specs.Transfers.{transfers}
+use Rattle.reading.specs.Transfers.{majorOf, limitsAt, majorIn}
+use Rattle.measuring.specs.Measuring.{pvOf, measuredOf}
+use Rattle.carried.specs.Former.{formerOf}
+use Rattle.reading.specs.Reading.{modeAfter, remoteOf, readingOf}
 use Rattle.control.specs.Counts.{outputCounts}
 use Rattle.control.specs.Errors.{inDeadband, squaredOver, errorOf}
 use Rattle.control.specs.Terms.{exactP, exactI, exactD, exactTerms, termsOf}
@@ -27,9 +31,9 @@ use Rattle.profile.specs.Flags.{deviates, flagsOf}
 use Rattle.profile.specs.Samples.{sampledBy}
 use Rattle.alarms.specs.Status.{levelsOf, statusOf}
 use Rattle.carried.specs.declared.record.Carried.{Carried}
-use Rattle.carried.specs.Layout.{resetRecord}
+use Rattle.carried.specs.Layout.{fieldCount, profileFrom, recordFrom}
 use Rattle.judging.specs.Judging.{readingCases}
-use Rattle.engine.specs.Sensing.{pvOf, setpointOf, changed, entering, runsOn, targetOf, profiledOf, faultAfter, errorIn, sensedOf}
+use Rattle.engine.specs.Sensing.{setpointOf, changed, entering, runsOn, targetOf, profiledOf, faultAfter, errorIn, sensedOf}
 use Rattle.engine.specs.Driving.{heldOf, startOf, keptIn, pastOf, positionInputs, velocityInputs, termsIn, movedIn, movedOf, drivenOf}
 use Rattle.engine.specs.Writing.{outputWord, biasWord, statusWord, writtenOf, nextOf, writtenTo}
 use Rattle.engine.specs.Steps.{stepOf}
@@ -48,19 +52,19 @@ record Loop : Type 0 where
 sampled : Answer → Loop → Reading → ℕ → Loop
 sampled (Refused why) l r raw = l
 sampled Accepted l r raw =
-    let s = stepOf r (l .carried) raw in
+    let s = stepOf r (l .carried) (measuredOf r raw) in
     record { words = writtenTo (l .words) 0 (s .written); carried = s .carried }
 
 after : Loop → Call → Loop
 after l (store address value) = record { words = set (l .words) address value; carried = l .carried }
-after l (sample raw) = let r = readingOf (l .words) 1 (l .carried .state .mode) (l .carried .state .profile .segment) in sampled (firstOf (readingCases r raw)) l r raw
+after l (sample raw) = let r = readingOf (l .words) 1 (formerOf (l .carried .state)) in sampled (firstOf (readingCases r raw)) l r raw
 
 run : Loop → List Call → Loop
 run l [] = l
 run l (x ∷ xs) = run (after l x) xs
 
 reset : Loop
-reset = record { words = replicate 1024 0; carried = resetRecord }
+reset = record { words = replicate 1024 0; carried = recordFrom (replicate fieldCount (pos 0)) }
 
 -- lines 1 to 6 of X1 with mode 1 as given, and line 7
 begun : ℕ → List Call
@@ -132,5 +136,5 @@ given x = let words = run reset (x .calls) .words in map (λ (i : ℕ). getD wor
 
 -- each of the thirteen cases gives the numbers of X1 to X3, and each of the seven those of two formats
 pub all-starred : map given (starred ++ formats) ≡ map (λ x. x .answers) (starred ++ formats)
-unfolding faultOf pairAt anyBelow badDigitIn highEndIn programOf commandOf withHold handedOver joggedOf toward rampedTo rampedBy soakedBy movedBy workedBy advancedBy deviates flagsOf runsOn profiledOf sampledBy noProgram faultAfter clampBy halfUp halfAway rootWithin rootOf over negᶠ roundTo bcd badDigit modeAfter mode2Of badDigits tuningOf settingsOf remoteOf transfers readingOf inDeadband squaredOver errorOf outputCounts converted exactP exactI exactD exactTerms termsOf outsideOf positionOf velocityOf apart levelsOf statusOf resetRecord pvOf setpointOf changed entering heldOf startOf targetOf errorIn sensedOf keptIn pastOf positionInputs velocityInputs termsIn movedIn movedOf drivenOf outputWord biasWord statusWord writtenOf nextOf stepOf writtenTo sampled after run reset begun line9 low back _gives_at_ starred with line10 formats given
+unfolding faultOf pairAt anyBelow badDigitIn highEndIn programOf commandOf withHold handedOver joggedOf toward rampedTo rampedBy soakedBy movedBy workedBy advancedBy deviates flagsOf runsOn profiledOf sampledBy noProgram faultAfter clampBy halfUp halfAway rootWithin rootOf over negᶠ roundTo bcd badDigit modeAfter mode2Of badDigits tuningOf settingsOf remoteOf transfers majorOf limitsAt majorIn readingOf inDeadband squaredOver errorOf outputCounts converted exactP exactI exactD exactTerms termsOf outsideOf positionOf velocityOf apart levelsOf statusOf profileFrom recordFrom pvOf setpointOf changed entering heldOf startOf targetOf errorIn sensedOf keptIn pastOf positionInputs velocityInputs termsIn movedIn movedOf drivenOf outputWord biasWord statusWord writtenOf nextOf stepOf writtenTo sampled after run reset begun line9 low back _gives_at_ starred with line10 formats given
 all-starred = refl

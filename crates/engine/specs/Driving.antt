@@ -4,9 +4,9 @@ use mathlib.Core.Bool.{Bool, cond, not, _||_}
 use lib.IntN.{ℤ, pos, _+ℤ_, _-ℤ_}
 use Rattle.numbers.specs.Limits.{clampℕ}
 use Rattle.numbers.specs.Rounding.{unitsOf}
-use Rattle.table.specs.declared.settings.Mode2.{Mode2}
-use Rattle.table.specs.declared.settings.Settings.{Settings}
-use Rattle.table.specs.declared.reading.Reading.{Reading}
+use Rattle.reading.specs.declared.settings.Mode2.{Mode2}
+use Rattle.reading.specs.declared.settings.Settings.{Settings}
+use Rattle.reading.specs.declared.reading.Reading.{Reading}
 use Rattle.table.specs.Modes.{isManual}
 use Rattle.control.specs.declared.terms.Inputs.{Inputs}
 use Rattle.control.specs.declared.terms.Terms.{Terms}

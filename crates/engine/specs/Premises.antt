@@ -5,9 +5,9 @@ use mathlib.Core.Bool.{not, _||_}
 use lib.IntN.{ℤ, pos, natAbs}
 use lib.Signed.{_≤ℤ_}
 use Rattle.numbers.specs.Rounding.{unitsOf}
-use Rattle.table.specs.declared.settings.Settings.{Settings}
-use Rattle.table.specs.declared.reading.Reading.{Reading}
-use Rattle.table.specs.Programs.Laws.{Fair}
+use Rattle.reading.specs.declared.settings.Settings.{Settings}
+use Rattle.reading.specs.declared.reading.Reading.{Reading}
+use Rattle.reading.specs.Programs.Laws.{Fair}
 use Rattle.control.specs.declared.forms.Drive.{Drive}
 use Rattle.control.specs.Counts.Laws.{Matched}
 use Rattle.control.specs.Premises.{Tuned}
@@ -17,8 +17,8 @@ use Rattle.engine.specs.declared.sensing.Sensed.{Sensed}
 use Rattle.engine.specs.Sensing.{setpointOf}
 use Rattle.engine.specs.Driving.{startOf, pastOf}
 
--- the reading of an accepted sample: F and G are any two words above 0, and with bit 10 off they are one
-pub record Usable (r : Reading) (raw : ℕ) : Type 0 where
+-- the reading and the PV of an accepted sample: F and G are any two words above 0, and with bit 10 off they are one
+pub record Usable (r : Reading) (p : ℕ) : Type 0 where
   pub tuned : Tuned (r .settings .tuning)
   pub limits : r .settings .limits .low ≤ r .settings .limits .high
   pub high : r .settings .limits .high ≤ r .settings .mode2 .output .scale
@@ -28,7 +28,7 @@ pub record Usable (r : Reading) (raw : ℕ) : Type 0 where
   pub above : 0 < r .settings .mode2 .input .scale
   pub matched : Matched (r .settings .mode2)
   pub setpoint : setpointOf r ≤ r .settings .mode2 .input .scale
-  pub input : raw ≤ r .settings .mode2 .input .scale
+  pub pv : p ≤ r .settings .mode2 .input .scale
   pub program : Fair (r .program) (r .settings .mode2 .input .scale)
 
 -- units of a word

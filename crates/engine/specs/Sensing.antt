@@ -1,13 +1,12 @@
--- What a sample senses: A1 to A5, with the transfer (A13) at A3 and A4, and the profile between A4 and A5 (G3).
-use Prim.Native.Nat.{ℕ, _*_}
+-- What a sample senses of its PV p: A2 to A5, with the transfer (A13) at A3 and A4, and the profile between A4 and A5 (G3).
+use Prim.Native.Nat.{ℕ}
 use mathlib.Core.Bool.{Bool, cond, not, _&&_, _||_, Bool·beq}
 use lib.Dec.{eqb}
 use lib.IntN.{ℤ}
-use Rattle.numbers.specs.Roots.{rootOf}
 use Rattle.table.specs.declared.mode.Mode.{Mode}
-use Rattle.table.specs.declared.settings.Settings.{Settings}
-use Rattle.table.specs.declared.program.Program.{Program}
-use Rattle.table.specs.declared.reading.Reading.{Reading}
+use Rattle.reading.specs.declared.settings.Settings.{Settings}
+use Rattle.reading.specs.declared.program.Program.{Program}
+use Rattle.reading.specs.declared.reading.Reading.{Reading}
 use Rattle.table.specs.Modes.{isManual, isAutomatic, isCascade}
 use Rattle.control.specs.Counts.{outputCounts}
 use Rattle.control.specs.Errors.{inDeadband, errorOf}
@@ -18,14 +17,7 @@ use Rattle.carried.specs.declared.record.State.{State}
 use Rattle.engine.specs.declared.sensing.Sensed.{Sensed}
 pub mod Laws
 
--- A1: the raw PV, or the root of raw PV × F
-unfoldable pub pvOf : Bool → ℕ → ℕ → ℕ
-pvOf root F raw = cond root (rootOf (raw * F)) raw
-
--- A1, with the loop's settings
-abbrev pub pvIn : Reading → ℕ → ℕ
-pvIn r raw = pvOf (r .settings .mode1 .root) (r .settings .mode2 .input .scale) raw
-
+-- A1 is `measuredOf` of measuring: every definition below is given p
 -- A2 is `modeAfter` of the table: the reading has the mode that it gives
 
 -- A3: the word pointed to in Cascade, else word 2
@@ -60,26 +52,27 @@ profiledOf r q target p =
 unfoldable pub faultAfter : Reading → ℕ
 faultAfter r = cond (isCascade (r .mode)) (r .settings .stored .fault) (r .program .fault)
 
--- A5, with the loop's settings: the deadband by s and p in counts of the input, the error of both in counts of the output, squared over G
-unfoldable pub errorIn : Settings → ℕ → ℕ → ℤ
-errorIn s target p =
+-- A5, with the loop's settings: the deadband by s and p in counts of the input, the error of both in counts of the output, squared over G. `converted` is
+-- p in counts of the output
+unfoldable pub errorIn : Settings → ℕ → ℕ → ℕ → ℤ
+errorIn s target p converted =
     let quiet = inDeadband (s .mode1 .deadband) (s .deadband) target p in
-    errorOf quiet (s .mode1 .squared) (s .mode2 .output .scale) (outputCounts (s .mode2) target) (outputCounts (s .mode2) p)
+    errorOf quiet (s .mode1 .squared) (s .mode2 .output .scale) (outputCounts (s .mode2) target) converted
 
--- A1 to A5 together, from the carried mode, form, profile and mark; p in counts of the output as well (M7); and (A11) mode, form, profile and mark
+-- A2 to A5 together, from the carried mode, form, profile and mark; p in counts of the output as well (M7); and (A11) mode, form, profile and mark
 -- after them: in Manual a mark stays
 unfoldable pub sensedOf : Reading → State → ℕ → Sensed
-sensedOf r state raw =
+sensedOf r state p =
     let s = r .settings in
-    let p = pvIn r raw in
+    let converted = outputCounts (s .mode2) p in
     let change = changed state (s .mode1 .velocity) in
     let after = profiledOf r (state .profile) (targetOf r change (runsOn (r .program) (state .profile)) p) p in
     record {
       pv = p;
-      converted = outputCounts (s .mode2) p;
+      converted = converted;
       entry = entering state (r .mode) (s .mode1 .velocity);
       setpoint = after .setpoint;
-      error = errorIn s (after .setpoint) p;
+      error = errorIn s (after .setpoint) p converted;
       flags = after .flags;
       fault = faultAfter r;
       state = record { mode = r .mode; velocity = s .mode1 .velocity; profile = after .profile; mark = isManual (r .mode) && state .mark };

@@ -1,6 +1,6 @@
--- One accepted sample whole (A1 to A12): what it senses, what moves the output, what it writes.
+-- One accepted sample whole (A2 to A12), from its PV: what it senses, what moves the output, what it writes.
 use Prim.Native.Nat.{ℕ}
-use Rattle.table.specs.declared.reading.Reading.{Reading}
+use Rattle.reading.specs.declared.reading.Reading.{Reading}
 use Rattle.carried.specs.declared.record.Carried.{Carried}
 use Rattle.engine.specs.declared.stepping.Stepped.{Stepped}
 use Rattle.engine.specs.Sensing.{sensedOf}
@@ -8,10 +8,10 @@ use Rattle.engine.specs.Driving.{heldOf, drivenOf}
 use Rattle.engine.specs.Writing.{writtenOf, nextOf}
 pub mod Laws
 
--- A1 to A12: the words and the record that the sample leaves
+-- A2 to A12: the words and the record that a sample with the PV p leaves
 unfoldable pub stepOf : Reading → Carried → ℕ → Stepped
-stepOf r c raw =
-    let x = sensedOf r (c .state) raw in
+stepOf r c p =
+    let x = sensedOf r (c .state) p in
     let held = heldOf (r .settings) in
     let drive = drivenOf r c x held in
     record { written = writtenOf r c x held drive; carried = nextOf c x drive }

@@ -6,12 +6,12 @@ use lib.ListN.{set}
 use lib.IntN.{ℤ, pos, natAbs}
 use Rattle.numbers.specs.Limits.{clampℤ}
 use Rattle.numbers.specs.Rounding.{unitsOf, nearestCount}
-use Rattle.table.specs.declared.reading.Reading.{Reading}
+use Rattle.reading.specs.declared.reading.Reading.{Reading}
 use Rattle.table.specs.Words.{clearRequests}
 use Rattle.table.specs.Modes.{isManual}
 use Rattle.control.specs.declared.forms.Drive.{Drive}
 use Rattle.alarms.specs.declared.status.Seen.{Seen}
-use Rattle.alarms.specs.Status.{statusOf, bitsOf, wordOf}
+use Rattle.alarms.specs.Status.{statusOf, bitsOf, bitsWord}
 use Rattle.carried.specs.declared.record.Carried.{Carried}
 use Rattle.engine.specs.declared.sensing.Sensed.{Sensed}
 use Rattle.engine.specs.declared.writing.Written.{Written}
@@ -30,7 +30,7 @@ unfoldable pub statusWord : Reading → Carried → Sensed → ℕ → ℕ
 statusWord r c x output =
     let s = r .settings in
     let seen : Seen = record { pv = x .pv; setpoint = x .setpoint; last = c .past .last; sampled = c .sampled; output = output } in
-    wordOf (bitsOf (statusOf (r .mode) (s .mode1) (s .alarms) (s .limits) (s .stored .status) seen))
+    bitsWord (bitsOf (statusOf (r .mode) (s .mode1) (s .alarms) (s .limits) (s .stored .status) seen))
 
 -- A12: the eight words: mode 1 with its requests off (A2), setpoint (A3, A4, G3), PV (A11), bias and output (A10), status (B1 to B8), and of the
 -- profile words 27 (G10) and 29 (G2)

@@ -6,15 +6,14 @@ use carried::Past;
 use control::Drive;
 use control::Inputs;
 use control::Terms;
-use table::Mode2;
-use table::Reading;
-use table::Settings;
+use reading::Mode2;
+use reading::Reading;
+use reading::Settings;
 use table::is_manual;
 ghost use mathlib.Core.Path.{_≡_};
 ghost use mathlib.Core.Bool.{false};
 ghost use Prim.Native.Nat.{_≤_, _<_};
 ghost use lib.IntN.{natAbs};
-ghost use Rattle.control.specs.Counts.{outputCounts};
 ghost use Rattle.control.specs.Premises.{Tuned, Bounded, Ready};
 ghost use Rattle.engine.specs.Driving.{heldOf, startOf, keptIn, pastOf, positionInputs, velocityInputs, inputsOf, termsIn, lowUnits, highUnits, movedIn, drivenOf};
 ghost use Rattle.engine.specs.Premises.{Drivable};
@@ -104,7 +103,7 @@ fn inputs_for(velocity: bool, past: Past, pv: u16, e: i64) -> Inputs
 
 // A6, A7: what the terms act on: at an entry and at the first accepted sample they see no change.
 fn inputs_in(s: Settings, fresh: bool, kept: Past, sensed: Sensed) -> Inputs
-    requires { ⌜ (0 < s .mode2 .input .scale) × (sensed .converted ≡ outputCounts (s .mode2) (sensed .pv)) ⌝ }
+    requires { ⌜ 0 < s .mode2 .input .scale ⌝ }
     requires { ⌜ (fresh ≡ false → natAbs (kept .error) ≤ 65535) × (natAbs (sensed .error) ≤ 65535) ⌝ }
     ensures { λ r. ⌜ r ≡ inputsOf (s .mode1 .velocity) (pastOf (s .mode2) fresh kept (sensed .converted) (sensed .error)) (sensed .converted) (sensed .error) ⌝ }
 {
@@ -125,7 +124,7 @@ fn inputs_in(s: Settings, fresh: bool, kept: Past, sensed: Sensed) -> Inputs
             sensed.error,
         )
     } else {
-        inputs_for(s.mode1.velocity, kept, sensed.pv, sensed.error)
+        inputs_for(s.mode1.velocity, kept, sensed.converted, sensed.error)
     }
 }
 
@@ -147,7 +146,7 @@ fn moved_in(s: Settings, drive: Drive, inputs: Inputs) -> Drive
 // A6 to A9: the bias and output after the sample; in Manual there are no terms (A10). `held` is word 5 inside the
 // limits.
 pub(crate) fn driven(reading: Reading, carried: Carried, sensed: Sensed, held: u16) -> Drive
-    requires { ⌜ (0 < reading .settings .mode2 .input .scale) × (sensed .converted ≡ outputCounts (reading .settings .mode2) (sensed .pv)) × Drivable reading carried sensed held ⌝ }
+    requires { ⌜ (0 < reading .settings .mode2 .input .scale) × Drivable reading carried sensed held ⌝ }
     ensures { λ r. ⌜ r ≡ drivenOf reading carried sensed held ⌝ }
 {
     let s = reading.settings;

@@ -1,11 +1,10 @@
-// The engine: one accepted sample (A1 to A12) of one loop, on what it read and on the loop's carried record.
+// The engine: one accepted sample (A2 to A12) of one loop, on what it read, its PV and the loop's carried record.
 mod driving;
 mod sensing;
 mod stepping;
 mod writing;
 
 pub use sensing::Sensed;
-pub use sensing::pv_in;
 pub use stepping::Stepped;
 pub use stepping::step;
 pub use writing::Written;

@@ -1,20 +1,19 @@
-// What a sample senses (A1 to A5): the PV, the mode, whether the sample is an entry, the setpoint with its
+// What a sample senses of its PV (A2 to A5): the mode, whether the sample is an entry, the setpoint with its
 // profile (G3), and the error.
 use carried::State;
 use profile::Profile;
 use profile::Profiled;
+use reading::Program;
+use reading::Reading;
+use reading::Settings;
 use table::Mode;
-use table::Program;
-use table::Reading;
-use table::Settings;
 use table::is_automatic;
 use table::is_cascade;
 use table::is_manual;
 ghost use mathlib.Core.Path.{_≡_};
 ghost use mathlib.Core.Bool.{_&&_};
 ghost use Prim.Native.Nat.{_≤_, _<_};
-ghost use Rattle.control.specs.Counts.{outputCounts};
-ghost use Rattle.engine.specs.Sensing.{pvOf, pvIn, setpointOf, changed, entering, runsOn, targetOf, profiledOf, faultAfter, errorIn, sensedOf};
+ghost use Rattle.engine.specs.Sensing.{setpointOf, changed, entering, runsOn, targetOf, profiledOf, faultAfter, errorIn, sensedOf};
 ghost use Rattle.table.specs.Modes.{isManual};
 ghost use Rattle.profile.specs.Moves.Laws.{Within};
 
@@ -29,25 +28,6 @@ pub struct Sensed {
     pub flags: u16,
     pub fault: u16,
     pub state: State,
-}
-
-// A1: the PV, or the root of it.
-fn measured(root: bool, scale: u16, raw: u16) -> u16
-    ensures { λ r. ⌜ r ≡ pvOf root scale raw ⌝ }
-{
-    if root {
-        numbers::root(raw as u32 * scale as u32) as u16
-    } else {
-        raw
-    }
-}
-
-// A1 with the loop's settings.
-pub fn pv_in(reading: Reading, raw: u16) -> u16
-    ensures { λ r. ⌜ r ≡ pvIn reading raw ⌝ }
-{
-    let s = reading.settings;
-    measured(s.mode1.root, s.mode2.input.scale, raw)
 }
 
 // A3: the setpoint.
@@ -155,8 +135,8 @@ fn fault_after(reading: Reading) -> u16
 
 // A5 with the loop's settings. `converted` is the PV in counts of the output.
 fn error_in(s: Settings, target: u16, pv: u16, converted: u16) -> i64
-    requires { ⌜ (0 < s .mode2 .input .scale) × (0 < s .mode2 .output .scale) × (converted ≡ outputCounts (s .mode2) pv) ⌝ }
-    ensures { λ r. ⌜ r ≡ errorIn s target pv ⌝ }
+    requires { ⌜ (0 < s .mode2 .input .scale) × (0 < s .mode2 .output .scale) ⌝ }
+    ensures { λ r. ⌜ r ≡ errorIn s target pv converted ⌝ }
 {
     let formats = s.mode2;
     let setpoint = control::output_counts(formats, target);
@@ -170,15 +150,14 @@ fn error_in(s: Settings, target: u16, pv: u16, converted: u16) -> i64
     )
 }
 
-// A1 to A5, from the carried mode, form, profile and mark.
-pub(crate) fn sensed_by(reading: Reading, state: State, raw: u16) -> Sensed
+// A2 to A5, from the carried mode, form, profile and mark.
+pub(crate) fn sensed_by(reading: Reading, state: State, pv: u16) -> Sensed
     requires { ⌜ (0 < reading .settings .mode2 .input .scale) × (0 < reading .settings .mode2 .output .scale) × Within (state .profile) × (reading .program .pair .duration ≤ 9999) ⌝ }
-    ensures { λ r. ⌜ r ≡ sensedOf reading state raw ⌝ }
+    ensures { λ r. ⌜ r ≡ sensedOf reading state pv ⌝ }
 {
     let s = reading.settings;
     let formats = s.mode2;
     let mode = reading.mode;
-    let pv = pv_in(reading, raw);
     let entry = enters(state, mode, s.mode1.velocity);
     let change = changes(state, s.mode1.velocity);
     let program = reading.program;

@@ -6,7 +6,7 @@ use crate::writing::Written;
 use crate::writing::next_record;
 use crate::writing::words_after;
 use carried::Carried;
-use table::Reading;
+use reading::Reading;
 ghost use mathlib.Core.Path.{_≡_};
 ghost use Rattle.carried.specs.Ranged.{Ranged};
 ghost use Rattle.engine.specs.Steps.{stepOf};
@@ -17,14 +17,14 @@ pub struct Stepped {
     pub carried: Carried,
 }
 
-// A sample that was judged and accepted, of a loop whose record is in range.
-pub fn step(reading: Reading, carried: Carried, raw: u16) -> Stepped
-    requires { ⌜ Usable reading raw × Ranged carried ⌝ }
-    ensures { λ r. ⌜ r ≡ stepOf reading carried raw ⌝ }
+// A sample that was judged and accepted, with its PV, of a loop whose record is in range.
+pub fn step(reading: Reading, carried: Carried, pv: u16) -> Stepped
+    requires { ⌜ Usable reading pv × Ranged carried ⌝ }
+    ensures { λ r. ⌜ r ≡ stepOf reading carried pv ⌝ }
 {
     let s = reading.settings;
     let state = carried.state;
-    let sensed = sensed_by(reading, state, raw);
+    let sensed = sensed_by(reading, state, pv);
     let held = held_word(s);
     let drive = driven(reading, carried, sensed, held);
     let written = words_after(reading, carried, sensed, held, drive);

@@ -8,11 +8,12 @@ use Rattle.refusals.specs.Refusals.{numberOf, firstOf}
 use Rattle.table.specs.declared.mode.Mode.{Mode}
 use Rattle.table.specs.declared.mode.Mode.the-variants.{Manual, Automatic, Cascade}
 use Rattle.table.specs.Words.{bcd, badDigit}
-use Rattle.table.specs.Settings.{mode2Of, badDigits, tuningOf, settingsOf}
-use Rattle.table.specs.Programs.{faultOf, pairAt, anyBelow, badDigitIn, highEndIn, noProgram, programOf}
-use Rattle.table.specs.Transfers.{transfers, majorOf, limitsAt, majorIn}
-use Rattle.table.specs.Reading.{modeAfter, remoteOf, readingOf}
-use Rattle.judging.specs.Judging.{readingCases, transferCases}
+use Rattle.reading.specs.Settings.{mode2Of, badDigits, tuningOf, settingsOf}
+use Rattle.reading.specs.Programs.{faultOf, pairAt, anyBelow, badDigitIn, highEndIn, noProgram, programOf}
+use Rattle.reading.specs.Transfers.{transfers, majorOf, limitsAt, majorIn}
+use Rattle.measuring.specs.Measuring.{pvOf}
+use Rattle.reading.specs.Reading.{modeAfter, remoteOf, readingOf}
+use Rattle.judging.specs.Judging.{readingCases}
 
 -- words of loop 1 changed, a raw PV, and the number expected
 pub record Case : Type 0 where
@@ -120,11 +121,12 @@ tables =
     ∷ case (table 512 0 4096) 4096 8
     ∷ []
 
-pub answer : Case → ℕ
-answer c = numberOf (firstOf (readingCases (readingOf (c .write worked) 1 Manual 0) (c .raw)))
+-- the answer to a sample of loop 1, without a profile, from a carried mode
+pub answer-from : Mode → Case → ℕ
+answer-from former c = numberOf (firstOf (readingCases (readingOf (c .write worked) 1 (record { mode = former; segment = 0 })) (c .raw)))
 
-pub computed : map answer (cases ++ tables) ≡ map (λ (c : Case). c .number) (cases ++ tables)
-unfolding faultOf pairAt anyBelow badDigitIn highEndIn noProgram programOf table tables bcd badDigit mode2Of badDigits tuningOf settingsOf modeAfter remoteOf transfers readingOf worked case word cases answer
+pub computed : map (answer-from Manual) (cases ++ tables) ≡ map (λ (c : Case). c .number) (cases ++ tables)
+unfolding faultOf pairAt anyBelow badDigitIn highEndIn noProgram programOf table tables bcd badDigit mode2Of badDigits tuningOf settingsOf modeAfter remoteOf transfers majorOf limitsAt majorIn pvOf readingOf worked case word cases answer-from
 computed = refl
 
 -- a transfer of loop 1 to loop 2, whose output limits are 1,000 and 2,000
@@ -157,15 +159,8 @@ handing =
     ∷ case (λ ws. word 0 0 (handed ws)) 999 0
     ∷ []
 
--- the answer to a sample of loop 1, without the root, from a carried mode
-pub answer-from : Mode → Case → ℕ
-answer-from former c =
-    let ws = c .write worked in
-    let r = readingOf ws 1 former 0 in
-    numberOf (firstOf (readingCases r (c .raw) ++ transferCases (r .transfer) (majorIn ws 1 (r .settings .pointer)) (c .raw)))
-
 -- from Automatic; from Manual, and in Cascade, it is no transfer
 pub computed-handing : (map (answer-from Automatic) handing ≡ map (λ (c : Case). c .number) handing)
     × (answer-from Manual low-pv ≡ 0) × (answer-from Cascade low-pv ≡ 0)
-unfolding faultOf pairAt anyBelow badDigitIn highEndIn noProgram programOf bcd badDigit mode2Of badDigits tuningOf settingsOf modeAfter remoteOf transfers majorOf limitsAt majorIn readingOf worked case word handed low-pv handing answer-from
+unfolding faultOf pairAt anyBelow badDigitIn highEndIn noProgram programOf bcd badDigit mode2Of badDigits tuningOf settingsOf modeAfter remoteOf transfers majorOf limitsAt majorIn pvOf readingOf worked case word handed low-pv handing answer-from
 computed-handing = (refl, refl, refl)

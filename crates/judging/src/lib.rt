@@ -1,32 +1,35 @@
-// Whether a sample is accepted, by what it read of the words: N7, N8, N12, N13, N14 and N9; and N11, for which the PV has to be known.
+// Whether a sample is accepted, by what it read of the words and its raw PV: N7, N8, N12, N13, N14 and N9, in this order
+// (O3); and N11, by its PV.
+use reading::Major;
+use reading::Mode1;
+use reading::OutputLimits;
+use reading::Reading;
+use reading::Tuning;
 use refusals::Answer;
 use refusals::Refusal;
-use table::Major;
-use table::Mode1;
-use table::OutputLimits;
-use table::Reading;
-use table::Tuning;
-use table::WORDS;
+use table::LAST_ADDRESS;
 use table::is_cascade;
 ghost use mathlib.Core.Path.{_≡_};
 ghost use lib.Dec.{ltb};
 ghost use Rattle.refusals.specs.Refusals.{firstOf};
-ghost use Rattle.judging.specs.Judging.{badModes, badTimes, badLimits, badSetpoint, readingCases, badMajor};
+ghost use Rattle.judging.specs.Judging.{badModes, badTimes, badLimits, badSetpoint, settingCases, badMajor};
 
 const LEAST_PERIOD: u16 = 5; // 0.05 s
 
 const MOST_HYSTERESIS: u16 = 200;
 
-const LAST_ADDRESS: u16 = WORDS as u16 - 1;
-
 // N8: a setting of the mode bits, velocity with Bumpless II, or the hysteresis of alarms that are on.
 fn bad_modes(bits: Mode1, unused: bool, hysteresis: u16) -> bool
     ensures { λ r. ⌜ r ≡ badModes bits unused hysteresis ⌝ }
 {
-    (bits.velocity & bits.bumpless)
-        | bits.limited
-        | unused
-        | ((bits.level | bits.deviation) & ((hysteresis < 1) | (MOST_HYSTERESIS < hysteresis)))
+    if (bits.velocity & bits.bumpless) | bits.limited | unused {
+        return true;
+    }
+    if bits.level | bits.deviation {
+        (hysteresis < 1) | (MOST_HYSTERESIS < hysteresis)
+    } else {
+        false
+    }
 }
 
 // N12: the period or the reset time.
@@ -47,7 +50,11 @@ fn bad_limits(limits: OutputLimits, scale: u16) -> bool
 fn bad_setpoint(cascade: bool, scale: u16, setpoint: u16, pointer: u16, remote: u16) -> bool
     ensures { λ r. ⌜ r ≡ badSetpoint cascade scale setpoint pointer remote ⌝ }
 {
-    (!cascade & (scale < setpoint)) | (cascade & ((LAST_ADDRESS < pointer) | (scale < remote)))
+    if cascade {
+        (LAST_ADDRESS < pointer as u64) | (scale < remote)
+    } else {
+        scale < setpoint
+    }
 }
 
 // N9: the raw PV, of any size, above full scale.
@@ -59,7 +66,7 @@ fn above(scale: u16, raw: u64) -> bool
 
 // O4: the first refusal whose condition holds, in O3's order.
 pub fn judge(reading: Reading, raw: u64) -> Answer
-    ensures { λ r. ⌜ r ≡ firstOf (readingCases reading raw) ⌝ }
+    ensures { λ r. ⌜ r ≡ firstOf (settingCases reading raw) ⌝ }
 {
     let s = reading.settings;
     let mode = reading.mode;
@@ -89,9 +96,13 @@ pub fn judge(reading: Reading, raw: u64) -> Answer
     Answer::Accepted
 }
 
-// N11: no major loop, or a PV outside that loop's output limits.
-pub fn bad_major(m: Major, pv: u16) -> bool
-    ensures { λ r. ⌜ r ≡ badMajor m pv ⌝ }
+// N11: at a transfer, no major loop, or a PV outside that loop's output limits.
+pub fn bad_major(transfer: bool, m: Major, pv: u16) -> bool
+    ensures { λ r. ⌜ r ≡ badMajor transfer m pv ⌝ }
 {
-    (m.number == 0) | (pv < m.limits.low) | (m.limits.high < pv)
+    if transfer {
+        (m.number == 0) | (pv < m.limits.low) | (m.limits.high < pv)
+    } else {
+        false
+    }
 }

@@ -5,19 +5,20 @@
 // or the number of the refusal; a refusal leaves all lent memory as it was. A `&[T]` is a pointer and
 // then a length for a C caller, a `&mut [T; N]` a pointer.
 use desk::FIELDS;
+use desk::Sampled;
+use refusals::Answer;
 use refusals::number_of;
 ghost use mathlib.Core.Path.{_≡_};
-ghost use Prim.Native.Nat.{_≤_};
 ghost use Rattle.refusals.specs.Refusals.{numberOf};
-ghost use Rattle.desk.specs.Desk.{lent, resetAnswer, resetLeft, storeAnswer, storeLeft, sampleAnswer, sampleLeft, lineOf, fieldsAnswer, fieldsLeft};
-ghost use Rattle.kexbardi.specs.Interface.{lineBy, lineLeft};
+ghost use Rattle.desk.specs.Desk.{lent, resetAnswer, resetLeft, storeAnswer, storeLeft, sampleAnswer, sampleLeft, fieldsAnswer, fieldsLeft};
+ghost use Rattle.kexbardi.specs.Interface.{lineLeft};
 
 // Q10: the version of functions and layout, major, minor and patch as MMmmpp: its one source (package/make).
-const VERSION: u32 = 50200;
+const VERSION: u32 = 50201;
 
 #[no_mangle]
 pub extern "C" fn kexbardi_version() -> u32
-    ensures { λ r. ⌜ r ≡ 50200 ⌝ }
+    ensures { λ r. ⌜ r ≡ 50201 ⌝ }
 {
     VERSION
 }
@@ -45,16 +46,6 @@ pub extern "C" fn kexbardi_store(
     number_of(desk::store(words, records, address, value))
 }
 
-// The line of a loop, where the call was accepted.
-fn show(answer: u8, line: &mut [u16; 4], words: &[u16], number: u64)
-    requires { ⌜ (answer ≡ 0 → number ≤ 16) ⌝ }
-    ensures { λ _. ⌜ now (line .exit) ≡ lineBy answer (now (line .entry)) (lineOf (now (words .entry)) number) ⌝ }
-{
-    if answer == 0 {
-        *line = desk::line(words, number as u8);
-    }
-}
-
 // Q3: a sample of a loop with a raw PV. 5, 4, 5, 7, 8, 12, 13, 14, 9 or 11; else the words and the loop's record after it, and
 // the line: setpoint, PV, output and status.
 #[no_mangle]
@@ -69,9 +60,14 @@ pub extern "C" fn kexbardi_sample(
     ensures left { λ _. ⌜ lent (now (words .exit)) (now (records .exit)) ≡ sampleLeft (lent (now (words .entry)) (now (records .entry))) number raw ⌝ }
     ensures line { λ _. ⌜ now (line .exit) ≡ lineLeft (lent (now (words .entry)) (now (records .entry))) number raw (now (line .entry)) ⌝ }
 {
-    let answer = number_of(desk::sample(words, records, number, raw));
-    show(answer, line, words, number);
-    answer
+    let sampled = desk::sample(words, records, number, raw);
+    match sampled {
+        Sampled::Refused(why) => number_of(Answer::Refused(why)),
+        Sampled::Shown(l) => {
+            *line = [l.setpoint, l.pv, l.output, l.status];
+            0
+        }
+    }
 }
 
 // Q4: the numbers of a loop's record, in the order of the layout. 5 or 4.

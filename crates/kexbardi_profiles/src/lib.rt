@@ -8,7 +8,8 @@ ghost use mathlib.Core.Path.{_≡_};
 ghost use Rattle.desk.specs.Desk.{lent, forecastAt};
 ghost use Rattle.kexbardi_profiles.specs.Told.{told, toldBy};
 
-// Q11: the samples that remain of a loop's profile. 5, 4, 7 or 8, and then the count stays.
+// Q11: the samples that remain of a loop's profile. 5, 4, 5, 7, 8, 12, 13, 14 or 11, as a sample with raw PV 0 (9 cannot
+// happen), and then the count stays.
 #[no_mangle]
 pub extern "C" fn kexbardi_forecast(
     words: &[u16],

@@ -11,10 +11,12 @@ use Rattle.numbers.specs.Scales.{converted}
 use Rattle.numbers.specs.Roots.{rootWithin, rootOf}
 use Rattle.numbers.specs.Fractions.{Fraction, over, whole, _+ᶠ_, negᶠ, ltᶠ, roundTo}
 use Rattle.table.specs.Words.{bcd, badDigit}
-use Rattle.table.specs.Settings.{mode2Of, badDigits, tuningOf, settingsOf}
-use Rattle.table.specs.Programs.{faultOf, pairAt, anyBelow, badDigitIn, highEndIn, noProgram, programOf}
-use Rattle.table.specs.Transfers.{transfers}
-use Rattle.table.specs.Reading.{modeAfter, remoteOf, readingOf}
+use Rattle.reading.specs.Settings.{mode2Of, badDigits, tuningOf, settingsOf}
+use Rattle.reading.specs.Programs.{faultOf, pairAt, anyBelow, badDigitIn, highEndIn, noProgram, programOf}
+use Rattle.reading.specs.Transfers.{transfers, majorOf, limitsAt, majorIn}
+use Rattle.measuring.specs.Measuring.{pvOf, measuredOf}
+use Rattle.carried.specs.Former.{formerOf}
+use Rattle.reading.specs.Reading.{modeAfter, remoteOf, readingOf}
 use Rattle.control.specs.Counts.{outputCounts}
 use Rattle.control.specs.Errors.{inDeadband, squaredOver, errorOf}
 use Rattle.control.specs.Terms.{exactP, exactI, exactD, exactTerms, termsOf}
@@ -26,13 +28,13 @@ use Rattle.profile.specs.Flags.{deviates, flagsOf}
 use Rattle.profile.specs.Samples.{sampledBy}
 use Rattle.alarms.specs.Status.{levelsOf, statusOf}
 use Rattle.carried.specs.declared.record.Carried.{Carried}
-use Rattle.carried.specs.Layout.{resetRecord}
-use Rattle.engine.specs.Sensing.{pvOf, setpointOf, changed, entering, runsOn, targetOf, profiledOf, faultAfter, errorIn, sensedOf}
+use Rattle.carried.specs.Layout.{fieldCount, profileFrom, recordFrom}
+use Rattle.engine.specs.Sensing.{setpointOf, changed, entering, runsOn, targetOf, profiledOf, faultAfter, errorIn, sensedOf}
 use Rattle.engine.specs.Driving.{heldOf, startOf, keptIn, pastOf, positionInputs, velocityInputs, termsIn, movedIn, movedOf, drivenOf}
 use Rattle.engine.specs.Writing.{outputWord, biasWord, statusWord, writtenOf, nextOf, writtenTo}
 use Rattle.engine.specs.Steps.{stepOf}
 use Rattle.plain.specs.Exact.{exactSum, exactOutput, exactBias}
-use Rattle.plain.specs.Plain.{Plain, begun, countAfter, movedBy, plainAfter}
+use Rattle.plain.specs.Plain.{Plain, begun, countAfter, exactMoved, plainAfter}
 
 -- what is written into the words before a sample, its raw PV, and what is expected after it: the engine's word, n and the exact output
 pub record Sample : Type 0 where
@@ -56,8 +58,10 @@ rows : List ℕ → Carried → Plain → List Sample → List Row
 rows ws c q [] = []
 rows ws c q (x ∷ xs) =
     let before = x .write ws in
-    let s = stepOf (readingOf before 1 (c .state .mode) (c .state .profile .segment)) c (x .raw) in
-    let q′ = plainAfter q (readingOf before 1 (q .state .mode) (q .state .profile .segment)) (x .raw) in
+    let r = readingOf before 1 (formerOf (c .state)) in
+    let s = stepOf r c (measuredOf r (x .raw)) in
+    let r′ = readingOf before 1 (formerOf (q .state)) in
+    let q′ = plainAfter q r′ (measuredOf r′ (x .raw)) in
     let after = writtenTo before 0 (s .written) in
     record { word = getD after 5 0; n = q′ .n; exact = same (q′ .output) (x .exact) } ∷ rows after (s .carried) q′ xs
 
@@ -65,7 +69,7 @@ pub expected : Sample → Row
 expected x = record { word = x .word; n = x .n; exact = true }
 
 pub from-reset : List Sample → List Row
-from-reset xs = rows (replicate 64 0) resetRecord (begun resetRecord) xs
+from-reset xs = let zeros = recordFrom (replicate fieldCount (pos 0)) in rows (replicate 64 0) zeros (begun zeros) xs
 
 -- ---- the worked loop: lines 7 and 9 of X1, then PV 0 and PV 1,500 as in X2
 
@@ -150,5 +154,5 @@ formats =
 
 pub computed : map from-reset (loopA ∷ counting ∷ entered ∷ cascaded ∷ formats ∷ [])
     ≡ map (map expected) (loopA ∷ counting ∷ entered ∷ cascaded ∷ formats ∷ [])
-unfolding faultOf pairAt anyBelow badDigitIn highEndIn programOf commandOf withHold handedOver joggedOf toward rampedTo rampedBy soakedBy profileMoved workedBy advancedBy deviates flagsOf runsOn profiledOf sampledBy noProgram faultAfter clampBy halfUp halfAway rootWithin rootOf over _+ᶠ_ negᶠ ltᶠ roundTo bcd badDigit modeAfter mode2Of badDigits tuningOf settingsOf remoteOf transfers readingOf inDeadband squaredOver errorOf outputCounts converted exactP exactI exactD exactTerms termsOf outsideOf positionOf velocityOf apart levelsOf statusOf resetRecord pvOf setpointOf changed entering heldOf startOf targetOf errorIn sensedOf keptIn pastOf positionInputs velocityInputs termsIn movedIn movedOf drivenOf outputWord biasWord statusWord writtenOf nextOf stepOf writtenTo exactSum exactOutput exactBias begun countAfter movedBy plainAfter same rows expected from-reset counts kept worked loopA mode counting settled entered followed cascaded formats
+unfolding faultOf pairAt anyBelow badDigitIn highEndIn programOf commandOf withHold handedOver joggedOf toward rampedTo rampedBy soakedBy profileMoved workedBy advancedBy deviates flagsOf runsOn profiledOf sampledBy noProgram faultAfter clampBy halfUp halfAway rootWithin rootOf over _+ᶠ_ negᶠ ltᶠ roundTo bcd badDigit modeAfter mode2Of badDigits tuningOf settingsOf remoteOf transfers majorOf limitsAt majorIn readingOf inDeadband squaredOver errorOf outputCounts converted exactP exactI exactD exactTerms termsOf outsideOf positionOf velocityOf apart levelsOf statusOf profileFrom recordFrom pvOf setpointOf changed entering heldOf startOf targetOf errorIn sensedOf keptIn pastOf positionInputs velocityInputs termsIn movedIn movedOf drivenOf outputWord biasWord statusWord writtenOf nextOf stepOf writtenTo exactSum exactOutput exactBias begun countAfter exactMoved plainAfter same rows expected from-reset counts kept worked loopA mode counting settled entered followed cascaded formats
 computed = refl

@@ -1,10 +1,10 @@
--- The plain loop is the exact loop of E3: the exact output, in fractions, beside the engine. It is fed the reading and the raw PV of each accepted
+-- The plain loop is the exact loop of E3: the exact output, in fractions, beside the engine. It is fed the reading and the PV of each accepted
 -- sample of its loop, told of another loop's transfer to it, and fed no number that the engine carries.
 use Prim.Native.Nat.{ℕ, zero, suc, _+_}
 use mathlib.Core.Bool.{Bool, true, false, cond, _||_}
 use lib.IntN.{ℤ, pos, _-ℤ_}
 use Rattle.numbers.specs.Fractions.{Fraction, over, whole, _+ᶠ_}
-use Rattle.table.specs.declared.reading.Reading.{Reading}
+use Rattle.reading.specs.declared.reading.Reading.{Reading}
 use Rattle.table.specs.Modes.{isManual}
 use Rattle.control.specs.declared.terms.Inputs.{Inputs}
 use Rattle.control.specs.Counts.{outputCounts}
@@ -43,9 +43,9 @@ inputsOf last p e = record { p = e; i = e; d = pos p -ℤ pos last }
 
 -- E5: where n is now above 0, the exact terms, the exact output, and B after it; `start` is B to start from, and `last` the last PV in counts of the
 -- output (M7). Where n is 0, B stays: the next entry sets it before it counts. State and p are kept whatever n is, p in counts of the input
-unfoldable pub movedBy : ℕ → Plain → Reading → Sensed → Fraction → ℕ → Plain
-movedBy zero q r x start last = record { state = x .state; last = x .pv; B = q .B; n = 0; output = q .output }
-movedBy (suc n) q r x start last =
+unfoldable pub exactMoved : ℕ → Plain → Reading → Sensed → Fraction → ℕ → Plain
+exactMoved zero q r x start last = record { state = x .state; last = x .pv; B = q .B; n = 0; output = q .output }
+exactMoved (suc n) q r x start last =
     let s = r .settings in
     let terms = exactTerms (s .tuning) (s .mode2 .minutes) (s .mode1 .reverse) (inputsOf last (x .converted) (x .error)) in
     let output = exactOutput (s .limits .low) (s .limits .high) start terms in
@@ -54,11 +54,11 @@ movedBy (suc n) q r x start last =
 -- E3 to E5: an accepted sample of its loop. p, s and e are those of A1 to A5 from its own state; an entry starts B at word 5 inside its
 -- limits, and the last PV at p; else the last PV is converted by this sample's formats (A6)
 unfoldable pub plainAfter : Plain → Reading → ℕ → Plain
-plainAfter q r raw =
+plainAfter q r p =
     let s = r .settings in
-    let x = sensedOf r (q .state) raw in
+    let x = sensedOf r (q .state) p in
     let n = countAfter (isManual (r .mode) || s .mode1 .freeze || s .mode1 .velocity) (x .entry) (q .n) in
-    movedBy n q r x (cond (x .entry) (whole (pos (heldOf s))) (q .B)) (cond (x .entry) (x .converted) (outputCounts (s .mode2) (q .last)))
+    exactMoved n q r x (cond (x .entry) (whole (pos (heldOf s))) (q .B)) (cond (x .entry) (x .converted) (outputCounts (s .mode2) (q .last)))
 
 -- E3, A13: another loop's transfer to it sets the mark, and nothing else
 unfoldable pub plainMarked : Plain → Plain

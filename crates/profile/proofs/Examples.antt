@@ -5,9 +5,9 @@ use mathlib.Core.Path.{_≡_, refl}
 use mathlib.Core.Bool.{Bool, true, false, cond}
 use mathlib.Core.List.{List, [], _∷_}
 use Rattle.numbers.specs.Distances.{apart}
-use Rattle.table.specs.declared.program.Program.{Program}
+use Rattle.reading.specs.declared.program.Program.{Program}
 use Rattle.table.specs.Words.{bcd}
-use Rattle.table.specs.Programs.{pairAt, pairNumber}
+use Rattle.reading.specs.Programs.{pairAt, pairNumber}
 use Rattle.profile.specs.declared.state.Profile.{Profile}
 use Rattle.profile.specs.Moves.{commandOf, withHold, handedOver, joggedOf, toward, rampedTo, rampedBy, soakedBy, movedBy, workedBy, advancedBy}
 use Rattle.profile.specs.Flags.{deviates, flagsOf}

@@ -4,8 +4,8 @@ use mathlib.Core.Bool.{cond}
 use mathlib.Core.List.{List}
 use lib.Dec.{eqb}
 use Rattle.numbers.specs.Distances.{apart}
-use Rattle.table.specs.declared.program.Pair.{Pair}
-use Rattle.table.specs.Programs.{pairAt, pairNumber}
+use Rattle.reading.specs.declared.program.Pair.{Pair}
+use Rattle.reading.specs.Programs.{pairAt, pairNumber}
 use Rattle.profile.specs.declared.state.Profile.{Profile}
 use Rattle.profile.specs.Moves.{partsOf}
 pub mod Laws

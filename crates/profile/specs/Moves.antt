@@ -2,8 +2,8 @@
 use Prim.Native.Nat.{ℕ, _+_, _-_, _*_, _/_, _%_}
 use mathlib.Core.Bool.{Bool, true, false, cond, _||_}
 use lib.Dec.{ltb, leb, eqb}
-use Rattle.table.specs.declared.program.Pair.{Pair}
-use Rattle.table.specs.declared.program.Program.{Program}
+use Rattle.reading.specs.declared.program.Pair.{Pair}
+use Rattle.reading.specs.declared.program.Program.{Program}
 use Rattle.table.specs.Words.{bit}
 use Rattle.profile.specs.declared.state.Profile.{Profile}
 use Rattle.profile.specs.declared.state.Moved.{Moved}

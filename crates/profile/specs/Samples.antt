@@ -1,6 +1,6 @@
 -- One sample of a loop's profile, outside Cascade (G4 to G10): profile and setpoint after it, and word 27.
 use Prim.Native.Nat.{ℕ}
-use Rattle.table.specs.declared.program.Program.{Program}
+use Rattle.reading.specs.declared.program.Program.{Program}
 use Rattle.profile.specs.declared.state.Profile.{Profile}
 use Rattle.profile.specs.declared.sampling.Profiled.{Profiled}
 use Rattle.profile.specs.Moves.{advancedBy}

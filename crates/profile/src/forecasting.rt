@@ -1,18 +1,17 @@
 // The forecast (G12): how many samples remain of a profile. Each ramp hands over to its soak and each soak
 // to the next ramp; a segment's samples are counted by a division.
+use crate::moves::PARTS;
+use crate::moves::SEGMENTS;
+use crate::moves::TENTH_OF_A_MINUTE;
 use crate::state::Profile;
-use table::read_pair;
+use reading::read_pair;
 ghost use mathlib.Core.Path.{_≡_};
 ghost use Prim.Native.Nat.{_*_, _≤_, _<_};
 ghost use lib.ListN.{length};
 ghost use Rattle.numbers.specs.Distances.{apart};
 ghost use Rattle.profile.specs.Forecasts.{countOf, rampsFrom, soaksFrom, forecastOf};
 
-const SEGMENTS: usize = 16;
-
-const PARTS: u32 = 10000; // of a count
-
-const TENTH_OF_A_MINUTE: u32 = 600; // hundredths of a second
+const SEGMENT_COUNT: usize = SEGMENTS as usize;
 
 // |a − b|.
 fn way(a: u32, b: u32) -> u32
@@ -41,7 +40,7 @@ fn ramps(table: &[u16], period: u16, at: u32, left: usize) -> u64
     if left == 0 {
         return 0;
     }
-    let pair = read_pair(table, (SEGMENTS - left) / 2);
+    let pair = read_pair(table, (SEGMENT_COUNT - left) / 2);
     if pair.slope == 0 {
         return 1;
     }
@@ -58,7 +57,7 @@ fn soaks(table: &[u16], period: u16, at: u32, time: u32, left: usize) -> u64
     if left == 0 {
         return 0;
     }
-    let pair = read_pair(table, (SEGMENTS - left) / 2);
+    let pair = read_pair(table, (SEGMENT_COUNT - left) / 2);
     let whole = TENTH_OF_A_MINUTE * pair.duration as u32;
     let rest = if time < whole { whole - time } else { 0 };
     let own = count(rest, period as u32);
@@ -77,7 +76,7 @@ pub fn forecast(table: &[u16], period: u16, p: Profile, setpoint: u16) -> u64
         return 0;
     }
     let at = PARTS * setpoint as u32 + p.fraction as u32;
-    let left = SEGMENTS + 1 - p.segment as usize;
+    let left = SEGMENT_COUNT + 1 - p.segment as usize;
     if p.segment % 2 == 1 {
         ramps(table, period, at, left)
     } else {

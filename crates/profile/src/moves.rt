@@ -1,16 +1,16 @@
 // One sample of a profile (G4 to G9): a command, or the ramp or soak that runs.
 use crate::state::Moved;
 use crate::state::Profile;
-use table::Pair;
+use reading::Pair;
 ghost use mathlib.Core.Path.{_≡_};
 ghost use Prim.Native.Nat.{_≤_};
 ghost use Rattle.profile.specs.Moves.{commandOf, endedOf, startedOf, withHold, completedOf, handedOver, joggedOf, toward, rampedTo, rampedBy, soakedBy, movedBy, workedBy};
 
-const SEGMENTS: u8 = 16;
+pub(crate) const SEGMENTS: u8 = 16;
 
-const PARTS: u32 = 10000; // of a count
+pub(crate) const PARTS: u32 = 10000; // of a count
 
-const TENTH_OF_A_MINUTE: u32 = 600; // hundredths of a second
+pub(crate) const TENTH_OF_A_MINUTE: u32 = 600; // hundredths of a second
 
 pub enum Command {
     Start,

@@ -4,7 +4,7 @@ use crate::moves::command_of;
 use crate::moves::ended;
 use crate::moves::worked;
 use crate::state::Profile;
-use table::Program;
+use reading::Program;
 ghost use mathlib.Core.Path.{_≡_};
 ghost use Prim.Native.Nat.{_≤_};
 ghost use Rattle.profile.specs.Moves.Laws.{Within};

@@ -30,6 +30,7 @@ pub(crate) fn tell(program: &[u8], what: &[u8])
 }
 
 // What went wrong, of which errno says nothing; its line feed is part of it.
+// Proved: it is safe and ends, and the line is `put_told`'s. What the system writes no contract can say.
 pub fn say(program: &[u8], what: &[u8])
     requires { ⌜ (length (now program) ≤ 8) × (length (now what) ≤ 4095) ⌝ }
 {

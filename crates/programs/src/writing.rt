@@ -7,6 +7,7 @@ ghost use Prim.Native.Nat.{_≤_};
 ghost use lib.ListN.{length};
 
 // Writes some bytes, or tells why they could not be written whole.
+// Proved: it is safe and ends. What the system writes no contract can say.
 pub fn write(program: &[u8], bytes: &[u8])
     requires { ⌜ length (now program) ≤ 8 ⌝ }
 {

@@ -116,15 +116,14 @@ module _ (s ws₀ : List ℕ) (ns₀ : List ℤ) where
 
     pub tell : {ws ws′ : List ℕ} {ns ns′ : List ℤ} {n m k at number : ℕ} {step : Step} {shown o o′ : List ℕ} {p p′ : ℕ}
         → Telling ws ns n m at o p → at < length s → step ≡ recordAt s at → Turned (step .item) ws ns number ws′ ns′ k
-        → shown ≡ shownFor ws′ (step .item) → Written o p (lineText (n + 1) (step .item) number shown) o′ p′
+        → shown ≡ shownFor (lent ws ns) (step .item) → Written o p (lineText (n + 1) (step .item) number shown) o′ p′
         → p′ ≤ p + (6 + widthOf (step .item)) → Telling ws′ ns′ (n + 1) (m + k) (step .next) o′ p′
     unfolding linesOf
     tell {ws} {ws′} {ns} {ns′} {n} {m} {k} {at} {number} {step} {shown} {o} {o′} {p} {p′} g h e t v w b =
         let line : List ℕ = lineText (n + 1) (step .item) number shown in
         let rest : List ℕ = linesOf (state ws′ ns′ (n + 1) (m + k)) (recordsFrom s (step .next)) in
-        let words : ws′ ≡ leftFor (lent ws ns) (step .item) .words = ap (λ (d : Desk). d .words) (t .left) in
         let all : linesOf (state ws ns n m) (recordsFrom s at) ≡ line ++ rest
-        = rw (records-step s at h) (rw (turned-state t n m, v, t .number-of, words, e)) in
+        = rw (records-step s at h) (rw (turned-state t n m, v, t .number-of, e)) in
         record {
           going = turn (g .going) h e t;
           most = omega (arith, g .most, b, rw (← e) at (line-room s at h));

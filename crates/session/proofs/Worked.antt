@@ -1,7 +1,7 @@
 -- The worked loop (X1): what is printed of its ten records, computed of the definitions.
 use Prim.Native.Nat.{ℕ}
 use mathlib.Core.Path.{_≡_, refl}
-use mathlib.Core.List.{List, [], _∷_, _++_, flatten}
+use mathlib.Core.List.{List, [], _∷_, _++_}
 use Rattle.numbers.specs.Limits.{clampBy}
 use Rattle.numbers.specs.Rounding.{halfUp, halfAway}
 use Rattle.numbers.specs.Roots.{rootWithin, rootOf}
@@ -9,10 +9,10 @@ use Rattle.numbers.specs.Fractions.{over, negᶠ, roundTo}
 use Rattle.text.specs.Text.{bytes, digitsWithin, decimalOf}
 use Rattle.reader.specs.File.{recordAt, positionsWithin, positionsFrom, recordsFrom}
 use Rattle.table.specs.Words.{bcd, badDigit}
-use Rattle.table.specs.Settings.{mode2Of, badDigits, tuningOf, settingsOf}
-use Rattle.table.specs.Programs.{faultOf, pairAt, anyBelow, badDigitIn, highEndIn, noProgram, programOf}
-use Rattle.table.specs.Transfers.{transfers, majorOf, limitsAt, majorIn}
-use Rattle.table.specs.Reading.{modeAfter, remoteOf, readingOf}
+use Rattle.reading.specs.Settings.{mode2Of, badDigits, tuningOf, settingsOf}
+use Rattle.reading.specs.Programs.{faultOf, pairAt, anyBelow, badDigitIn, highEndIn, noProgram, programOf}
+use Rattle.reading.specs.Transfers.{transfers, majorOf, limitsAt, majorIn}
+use Rattle.reading.specs.Reading.{modeAfter, remoteOf, readingOf}
 use Rattle.control.specs.Counts.{outputCounts}
 use Rattle.control.specs.Errors.{inDeadband, squaredOver, errorOf}
 use Rattle.control.specs.Terms.{exactP, exactI, exactD, exactTerms, termsOf}
@@ -22,12 +22,13 @@ use Rattle.profile.specs.Moves.{commandOf, withHold, handedOver, joggedOf, towa
 use Rattle.profile.specs.Flags.{deviates, flagsOf}
 use Rattle.profile.specs.Samples.{sampledBy}
 use Rattle.alarms.specs.Status.{levelsOf, statusOf}
-use Rattle.carried.specs.Layout.{resetRecord, outOfRange, numbersOf, profileFrom, recordFrom}
-use Rattle.engine.specs.Sensing.{pvOf, setpointOf, changed, entering, runsOn, targetOf, profiledOf, faultAfter, errorIn, sensedOf}
+use Rattle.carried.specs.Layout.{outOfRange, numbersOf, profileFrom, recordFrom}
+use Rattle.measuring.specs.Measuring.{pvOf}
+use Rattle.engine.specs.Sensing.{setpointOf, changed, entering, runsOn, targetOf, profiledOf, faultAfter, errorIn, sensedOf}
 use Rattle.engine.specs.Driving.{heldOf, startOf, keptIn, pastOf, positionInputs, velocityInputs, termsIn, movedIn, movedOf, drivenOf}
 use Rattle.engine.specs.Writing.{outputWord, biasWord, statusWord, writtenOf, nextOf, writtenTo}
 use Rattle.engine.specs.Steps.{stepOf}
-use Rattle.desk.specs.Desk.{fittingOf, noLoop, resetDesk, resetAnswer, resetLeft, storeAnswer, storeLeft, transferLeft, doneBy, sampleAnswer, sampleLeft}
+use Rattle.desk.specs.Desk.{fittingOf, noLoop, resetDesk, resetAnswer, resetLeft, storeAnswer, storeLeft, transferLeft, doneBy, sampleAnswer, sampleLeft, sampledAt}
 use Rattle.desk.specs.Lists.{answerTo, deskAfter}
 use Rattle.lines.specs.Lines.{lineText, lastText}
 use Rattle.session.specs.Printed.{linesOf, printedOf}
@@ -53,5 +54,5 @@ text =
     ++ bytes "10 refused 4\n10 records, 1 refused\n"
 
 pub worked : printedOf file ≡ text
-unfolding faultOf pairAt anyBelow badDigitIn highEndIn programOf commandOf withHold handedOver joggedOf toward rampedTo rampedBy soakedBy movedBy workedBy advancedBy deviates flagsOf runsOn profiledOf sampledBy noProgram faultAfter profileFrom clampBy halfUp halfAway rootWithin rootOf over negᶠ roundTo digitsWithin decimalOf recordAt positionsWithin positionsFrom recordsFrom bcd badDigit modeAfter mode2Of badDigits tuningOf settingsOf remoteOf transfers majorOf limitsAt majorIn readingOf inDeadband squaredOver errorOf outputCounts exactP exactI exactD exactTerms termsOf outsideOf positionOf velocityOf apart levelsOf statusOf resetRecord pvOf setpointOf changed entering heldOf startOf targetOf errorIn sensedOf keptIn pastOf positionInputs velocityInputs termsIn movedIn movedOf drivenOf outputWord biasWord statusWord writtenOf nextOf stepOf writtenTo outOfRange numbersOf recordFrom flatten fittingOf noLoop resetDesk resetAnswer resetLeft storeAnswer storeLeft transferLeft doneBy sampleAnswer sampleLeft answerTo deskAfter lineText lastText linesOf printedOf file text
+unfolding faultOf pairAt anyBelow badDigitIn highEndIn programOf commandOf withHold handedOver joggedOf toward rampedTo rampedBy soakedBy movedBy workedBy advancedBy deviates flagsOf runsOn profiledOf sampledBy noProgram faultAfter profileFrom clampBy halfUp halfAway rootWithin rootOf over negᶠ roundTo digitsWithin decimalOf recordAt positionsWithin positionsFrom recordsFrom bcd badDigit modeAfter mode2Of badDigits tuningOf settingsOf remoteOf transfers majorOf limitsAt majorIn readingOf inDeadband squaredOver errorOf outputCounts exactP exactI exactD exactTerms termsOf outsideOf positionOf velocityOf apart levelsOf statusOf pvOf setpointOf changed entering heldOf startOf targetOf errorIn sensedOf keptIn pastOf positionInputs velocityInputs termsIn movedIn movedOf drivenOf outputWord biasWord statusWord writtenOf nextOf stepOf writtenTo outOfRange numbersOf recordFrom fittingOf noLoop resetDesk resetAnswer resetLeft storeAnswer storeLeft transferLeft doneBy sampleAnswer sampleLeft sampledAt answerTo deskAfter lineText lastText linesOf printedOf file text
 worked = refl

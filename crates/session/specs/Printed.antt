@@ -9,19 +9,19 @@ use Rattle.reader.specs.declared.Record.{Record}
 use Rattle.reader.specs.File.{recordsOf}
 use Rattle.desk.specs.Desk.{resetDesk}
 use Rattle.lines.specs.Lines.{lineText, lastText}
-use Rattle.session.specs.Session.{numberFor, leftFor, shownFor, State, begun, after}
+use Rattle.session.specs.Session.{numberFor, shownFor, State, begun, after}
 
 -- L9, L10: the lines of some records from a state on, the last line with them
 unfoldable pub linesOf : State → List Record → List ℕ
 linesOf t [] = lastText (t .count) (t .refused)
 linesOf t (x ∷ xs) =
-    lineText (t .count + 1) x (numberFor (t .desk) x) (shownFor (leftFor (t .desk) x .words) x) ++ linesOf (after t x) xs
+    lineText (t .count + 1) x (numberFor (t .desk) x) (shownFor (t .desk) x) ++ linesOf (after t x) xs
 
 -- L9: the lines of the records alone
 unfoldable pub bodyOf : State → List Record → List ℕ
 bodyOf t [] = []
 bodyOf t (x ∷ xs) =
-    lineText (t .count + 1) x (numberFor (t .desk) x) (shownFor (leftFor (t .desk) x .words) x) ++ bodyOf (after t x) xs
+    lineText (t .count + 1) x (numberFor (t .desk) x) (shownFor (t .desk) x) ++ bodyOf (after t x) xs
 
 -- L11: the text of a file that is too long
 abbrev pub tooLong : List ℕ

@@ -13,8 +13,12 @@ use Rattle.refusals.specs.Refusals.{numberOf}
 use Rattle.reader.specs.declared.Record.{Record}
 use Rattle.reader.specs.declared.Record.the-variants.{Store, Sample, Refused}
 use Rattle.reader.specs.File.{recordsOf}
-use Rattle.desk.specs.Desk.{Desk, lent, fittingOf, lineOf}
+use Rattle.desk.specs.declared.sampling.Sampled.{Sampled}
+use Rattle.desk.specs.declared.sampling.Sampled.the-variants.{Shown}
+use Rattle.desk.specs.declared.sampling.Sampled.the-variants.{Refused as Unshown}
+use Rattle.desk.specs.Desk.{Desk, lent, fittingOf, answerShown, sampledAt}
 use Rattle.desk.specs.Lists.{Call, store, sample, answerTo, deskAfter}
+use Rattle.session.specs.declared.turn.Acted.{Acted}
 use Rattle.session.specs.declared.running.Ended.{Ended}
 use Rattle.session.specs.declared.running.Ended.the-variants.{Counts, Stopped}
 pub mod Laws
@@ -42,11 +46,22 @@ leftFor d x = byCall (deskAfter d) (λ why. d) x
 abbrev pub countOf : ℕ → ℕ
 countOf number = cond (eqb number 0) 0 1
 
--- L9: what is shown of the loop of a sample
-abbrev pub shownFor : List ℕ → Record → List ℕ
-shownFor ws (Store address value) = replicate 4 0
-shownFor ws (Sample k raw) = lineOf ws k
-shownFor ws (Refused why) = replicate 4 0
+-- L9: what is shown of the loop of a sample that is carried out
+abbrev pub shownOf : Sampled → List ℕ
+shownOf (Shown l) = l .setpoint ∷ l .pv ∷ l .output ∷ l .status ∷ []
+shownOf (Unshown why) = replicate 4 0
+
+abbrev pub shownFor : Desk → Record → List ℕ
+shownFor d (Store address value) = replicate 4 0
+shownFor d (Sample k raw) = shownOf (sampledAt d k raw)
+shownFor d (Refused why) = replicate 4 0
+
+-- Q5, L9: both
+abbrev pub actedFor : Desk → Record → Acted
+actedFor d x = record { number = numberFor d x; line = shownFor d x }
+
+abbrev pub actedBy : Sampled → Acted
+actedBy s = record { number = numberOf (answerShown s); line = shownOf s }
 
 -- ---- a list of records
 

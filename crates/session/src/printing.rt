@@ -1,7 +1,6 @@
 // L9 to L11: what the program prints of its input.
 use crate::turn::act;
 use crate::turn::refusals_in;
-use crate::turn::shown;
 use desk::NUMBERS;
 use desk::WORDS;
 use lines::put_last;
@@ -35,11 +34,11 @@ fn transcript(file: &[u8], words: &mut [u16], numbers: &mut [i64], out: &mut [u8
     while at < file.len() {
         let step = reader::read_record(file, at);
         let item = step.item;
-        let number = act(item, words, numbers);
-        let line = shown(item, words);
+        let acted = act(item, words, numbers);
+        let line = acted.line;
         count += 1;
-        refused += refusals_in(number);
-        place = put_line(out, place, count, item, number, line);
+        refused += refusals_in(acted.number);
+        place = put_line(out, place, count, item, acted.number, line);
         at = step.next;
     }
     put_last(out, place, count, refused)

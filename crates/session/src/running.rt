@@ -41,10 +41,10 @@ fn carry_all(file: &[u8], words: &mut [u16], numbers: &mut [i64], answers: &mut 
     while at < file.len() {
         let step = reader::read_record(file, at);
         let item = step.item;
-        let number = act(item, words, numbers);
-        keep(answers, count, number);
+        let acted = act(item, words, numbers);
+        keep(answers, count, acted.number);
         count += 1;
-        refused += refusals_in(number);
+        refused += refusals_in(acted.number);
         at = step.next;
     }
     Totals { count, refused }

@@ -13,10 +13,10 @@ failedWith (pos error) = cond (eqb error 4) Interrupted Failed
 failedWith (negsuc error) = Failed
 
 -- a call that answered `moved` and left `error` as errno
-unfoldable pub stepOf : ℤ → ℤ → Step
-stepOf (pos zero) error = Nothing
-stepOf (pos (suc n)) error = Moved (suc n)
-stepOf (negsuc n) error = failedWith error
+unfoldable pub outcomeOf : ℤ → ℤ → Step
+outcomeOf (pos zero) error = Nothing
+outcomeOf (pos (suc n)) error = Moved (suc n)
+outcomeOf (negsuc n) error = failedWith error
 
 -- a step that moves bytes moves one at least, and no more than there is room for
 unfoldable pub Within : ℕ → Step → Type 0

@@ -1,6 +1,6 @@
 // What one call of `read` or `write` came to.
 ghost use mathlib.Core.Path.{_≡_};
-ghost use Rattle.streams.specs.Steps.{stepOf};
+ghost use Rattle.streams.specs.Steps.{outcomeOf};
 use libc::EINTR;
 
 pub(crate) enum Step {
@@ -12,7 +12,7 @@ pub(crate) enum Step {
 
 // The step of a call that answered `moved` and left `error` as errno.
 pub(crate) fn step_of(moved: isize, error: i32) -> Step
-    ensures { λ r. ⌜ r ≡ stepOf moved error ⌝ }
+    ensures { λ r. ⌜ r ≡ outcomeOf moved error ⌝ }
 {
     if moved > 0 {
         return Step::Moved(moved as usize);

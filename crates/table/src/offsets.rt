@@ -5,6 +5,10 @@ pub const LOOPS: u8 = 16;
 
 pub const LOOP_WORDS: usize = 32;
 
+pub const FIRST_FREE: u64 = 512; // words from here on belong to no loop
+
+pub const LAST_ADDRESS: u64 = WORDS as u64 - 1;
+
 pub const MODE_1: usize = 0;
 
 pub const MODE_2: usize = 1;

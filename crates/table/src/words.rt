@@ -5,14 +5,14 @@ ghost use lib.ListN.{getD};
 ghost use Rattle.table.specs.Words.{bcd, badDigit, clearRequests, baseOf};
 
 // W3: four BCD digits as a number: the word less what a digit's place has too much, 16 for 10.
-pub(crate) fn decimal(word: u16) -> u16
+pub fn decimal(word: u16) -> u16
     ensures { λ r. ⌜ r ≡ bcd word ⌝ }
 {
     word - 6 * (word / 16) - 60 * (word / 256) - 600 * (word / 4096)
 }
 
 // N7: whether one of the four digits is above 9.
-pub(crate) fn bad_digit(word: u16) -> bool
+pub fn bad_digit(word: u16) -> bool
     ensures { λ r. ⌜ r ≡ badDigit word ⌝ }
 {
     (9 < word / 4096 % 16) | (9 < word / 256 % 16) | (9 < word / 16 % 16) | (9 < word % 16)

@@ -35,6 +35,10 @@ digitsWithin (suc limit) n =
 unfoldable pub decimalOf : ℕ → List ℕ
 decimalOf n = digitsWithin n n
 
+-- two digits of a number below 100
+abbrev pub twoDigits : ℕ → List ℕ
+twoDigits n = (48 + n / 10) ∷ (48 + n % 10) ∷ []
+
 -- the number that decimal digits say, behind a number already read
 unfoldable pub readFrom : ℕ → List ℕ → ℕ
 readFrom value [] = value

@@ -6,7 +6,7 @@ ghost use mathlib.Core.Path.{_≡_};
 ghost use mathlib.Core.List.{[], _∷_};
 ghost use Prim.Native.Nat.{_+_, _≤_, _<_};
 ghost use lib.ListN.{length};
-ghost use Rattle.text.specs.Text.{Written, decimalOf, hexDigit, hexOf};
+ghost use Rattle.text.specs.Text.{Written, decimalOf, twoDigits, hexDigit, hexOf};
 
 // One byte.
 pub fn put_byte(out: &mut [u8], at: usize, b: u8) -> usize
@@ -43,8 +43,54 @@ pub fn decimal_width(n: u64) -> usize
     width
 }
 
-// n in decimal, no zero in front. The digits are written from the last one back.
-pub fn put_decimal(out: &mut [u8], at: usize, n: u64) -> usize
+// Two digits of a number below 100.
+fn put_two(out: &mut [u8], at: usize, n: u32) -> usize
+    requires { ⌜ (n < 100) × (at + 2 ≤ length (now out)) ⌝ }
+    ensures { λ r. ⌜ Written (now (out .entry)) at (twoDigits n) (now (out .exit)) r ⌝ }
+{
+    out[at] = (48 + n / 10) as u8;
+    out[at + 1] = (48 + n % 10) as u8;
+    at + 2
+}
+
+// A number below 100 in decimal.
+fn put_up_to_two(out: &mut [u8], at: usize, n: u32) -> usize
+    requires { ⌜ (n < 100) × (at + length (decimalOf n) ≤ length (now out)) ⌝ }
+    ensures { λ r. ⌜ Written (now (out .entry)) at (decimalOf n) (now (out .exit)) r ⌝ }
+{
+    if n < 10 {
+        put_byte(out, at, (48 + n) as u8)
+    } else {
+        put_two(out, at, n)
+    }
+}
+
+// A number below 10,000.
+fn put_up_to_four(out: &mut [u8], at: usize, n: u32) -> usize
+    requires { ⌜ (n < 10000) × (at + length (decimalOf n) ≤ length (now out)) ⌝ }
+    ensures { λ r. ⌜ Written (now (out .entry)) at (decimalOf n) (now (out .exit)) r ⌝ }
+{
+    if n < 100 {
+        return put_up_to_two(out, at, n);
+    }
+    let behind = put_up_to_two(out, at, n / 100);
+    put_two(out, behind, n % 100)
+}
+
+// A number below 1,000,000: every word is.
+fn put_up_to_six(out: &mut [u8], at: usize, n: u32) -> usize
+    requires { ⌜ (n < 1000000) × (at + length (decimalOf n) ≤ length (now out)) ⌝ }
+    ensures { λ r. ⌜ Written (now (out .entry)) at (decimalOf n) (now (out .exit)) r ⌝ }
+{
+    if n < 10000 {
+        return put_up_to_four(out, at, n);
+    }
+    let behind = put_up_to_four(out, at, n / 100);
+    put_two(out, behind, n % 100)
+}
+
+// A number of any width. The digits are written from the last one back.
+fn put_long(out: &mut [u8], at: usize, n: u64) -> usize
     requires { ⌜ at + length (decimalOf n) ≤ length (now out) ⌝ }
     ensures { λ r. ⌜ Written (now (out .entry)) at (decimalOf n) (now (out .exit)) r ⌝ }
 {
@@ -58,6 +104,18 @@ pub fn put_decimal(out: &mut [u8], at: usize, n: u64) -> usize
     }
     out[at] = (48 + rest % 10) as u8;
     end
+}
+
+// n in decimal, no zero in front.
+pub fn put_decimal(out: &mut [u8], at: usize, n: u64) -> usize
+    requires { ⌜ at + length (decimalOf n) ≤ length (now out) ⌝ }
+    ensures { λ r. ⌜ Written (now (out .entry)) at (decimalOf n) (now (out .exit)) r ⌝ }
+{
+    if n < 1000000 {
+        put_up_to_six(out, at, n as u32)
+    } else {
+        put_long(out, at, n)
+    }
 }
 
 // The upper-case hexadecimal digit of a number below 16.

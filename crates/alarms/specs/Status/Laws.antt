@@ -12,7 +12,7 @@ use lib.Signed.{ltZ, _<ℤ_}
 use borrow.Author.Tests.{ltb-true, lt-ltb}
 use Rattle.numbers.specs.Whole.{linear, sub}
 use Rattle.table.specs.Words.{bit}
-use Rattle.alarms.specs.Status.{number, wordOf}
+use Rattle.alarms.specs.Status.{number, bitsWord}
 
 -- ---- the word of the bits
 
@@ -30,13 +30,13 @@ one true = refl
 one false = refl
 
 -- a word made of bits has those bits; above them it has none (B8)
-pub status-bit : (l : List Bool) (k : ℕ) → bit k (wordOf l) ≡ getD l k false
+pub status-bit : (l : List Bool) (k : ℕ) → bit k (bitsWord l) ≡ getD l k false
 status-bit [] k = rw zero-div
 status-bit (b ∷ l) zero = rw (div-one, low, one)
 status-bit (b ∷ l) (suc k) = rw (pow-succ', ← div-div-eq-div-mul, half) (status-bit l k)
 
 -- a word of n bits is below 2 ^ n
-pub status-high : (l : List Bool) → wordOf l < 2 ^ length l
+pub status-high : (l : List Bool) → bitsWord l < 2 ^ length l
 status-high [] = omega arith
 status-high (true ∷ l) = rw pow-succ' (omega (arith, status-high l))
 status-high (false ∷ l) = rw pow-succ' (omega (arith, status-high l))

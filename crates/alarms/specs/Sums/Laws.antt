@@ -6,13 +6,13 @@ use mathlib.Core.Bool.{Bool, true, false, cond, not, _&&_}
 use lib.Dec.{ltb}
 use Rattle.table.specs.declared.mode.Mode.{Mode}
 use Rattle.table.specs.declared.mode.Mode.the-variants.{Manual, Automatic, Cascade}
-use Rattle.table.specs.declared.settings.Mode1.{Mode1}
-use Rattle.table.specs.declared.settings.AlarmLimits.{AlarmLimits}
-use Rattle.table.specs.declared.settings.OutputLimits.{OutputLimits}
+use Rattle.reading.specs.declared.settings.Mode1.{Mode1}
+use Rattle.reading.specs.declared.settings.AlarmLimits.{AlarmLimits}
+use Rattle.reading.specs.declared.settings.OutputLimits.{OutputLimits}
 use Rattle.table.specs.Modes.{isManual, isAutomatic, isCascade}
 use Rattle.alarms.specs.declared.status.Seen.{Seen}
 use Rattle.numbers.specs.Distances.{apart}
-use Rattle.alarms.specs.Status.{unordered, atLimit, levelsOf, statusOf, number, wordOf, bitsOf}
+use Rattle.alarms.specs.Status.{unordered, atLimit, levelsOf, statusOf, number, bitsWord, bitsOf}
 use Rattle.alarms.specs.Sums.{flagOf, modeBit, levelBits, deviationBits}
 
 -- each group, by the numbers of its bits; what is not monitored has none
@@ -45,7 +45,7 @@ pub word-sum :
     + flagOf (bits .change && seen .sampled && ltb (l .change) (apart (seen .pv) (seen .last))) 512
     + flagOf (unordered bits l) 1024
     + flagOf (atLimit (isManual mode) output (seen .output) (seen .setpoint) (seen .pv)) 2048
-    ≡ wordOf (bitsOf (statusOf mode bits l output stored seen))
+    ≡ bitsWord (bitsOf (statusOf mode bits l output stored seen))
 unfolding statusOf levelsOf
 word-sum mode bits l output stored seen =
     rw (mode-sum mode, level-sum, deviation-sum, flag-sum 512, flag-sum 1024, flag-sum 2048) (omega arith)

@@ -5,7 +5,7 @@ use Prim.Native.Nat.{ℕ, _≤_}
 use native.Mathlib.Omega.{arith}
 use Rattle.numbers.specs.Scales.{converted}
 use Rattle.numbers.specs.Scales.Laws.{converted-high}
-use Rattle.table.specs.declared.settings.Mode2.{Mode2}
+use Rattle.reading.specs.declared.settings.Mode2.{Mode2}
 use Rattle.control.specs.Counts.{outputCounts}
 
 -- the output's full scale is the input's where bit 10 is off

@@ -3,16 +3,16 @@ use mathlib.Core.Path.{_≡_, refl, ap, _∙_}
 use mathlib.Core.Bool.{Bool, true, false, cond}
 use Prim.Native.Nat.{ℕ, _*_, _-_, _^_, _≤_, _<_}
 use native.Mathlib.Omega.{arith}
-use native.Mathlib.Nat.{mul-comm, mul-le-mul, mul-le-mul-left}
+use native.Mathlib.Nat.{mul-comm, mul-zero, mul-le-mul, mul-le-mul-left}
 use lib.Dec.{lit<, eqb}
-use lib.IntN.{ℤ, pos, natAbs, _-ℤ_, _*ℤ_}
+use lib.IntN.{ℤ, pos, natAbs, _-ℤ_, _*ℤ_, zero-*ℤ}
 use Rattle.numbers.specs.Whole.{abs-neg, abs-sub, abs-scale, scale-scale}
 use Rattle.numbers.specs.Limits.Laws.{by-test}
 use Rattle.numbers.specs.Rounding.{halfAway}
-use Rattle.numbers.specs.Rounding.Laws.{half-up-high, half-away-abs}
+use Rattle.numbers.specs.Rounding.Laws.{half-up-zero, half-up-high, half-away-abs}
 use Rattle.numbers.specs.Fractions.{Fraction, over, roundTo}
 use Rattle.numbers.specs.Fractions.Laws.{round-over, round-neg}
-use Rattle.table.specs.declared.settings.Tuning.{Tuning}
+use Rattle.reading.specs.declared.settings.Tuning.{Tuning}
 use Rattle.control.specs.declared.terms.Inputs.{Inputs}
 use Rattle.control.specs.declared.terms.Terms.{Terms}
 use Rattle.control.specs.Terms.{factorOf, exactP, exactI, exactD, directedᶠ, negated, exactTerms, termsOf}
@@ -23,6 +23,15 @@ pub term-is : (k : ℕ) (e : ℤ) {d : ℕ} → 0 < d → roundTo 262144 (over (
 term-is k e {d} p =
     round-over 262144 (pos k *ℤ e) p
     ∙ ap (λ (z : ℤ). halfAway z d) (scale-scale 262144 k e ∙ ap (λ (n : ℕ). pos n *ℤ e) (mul-comm 262144 k))
+
+-- a rate of 0 has no D
+pub no-rate : (c t : ℕ) (z : ℤ) → 0 < t → roundTo 262144 (exactD c 0 t z) ≡ pos 0
+unfolding exactD halfAway
+no-rate c t z p =
+    term-is (c * 0) z (omega arith)
+    ∙ ap (λ (n : ℕ). halfAway (pos (n * 262144) *ℤ z) (100 * t)) (mul-zero c)
+    ∙ ap (λ (x : ℤ). halfAway x (100 * t)) (zero-*ℤ z)
+    ∙ ap pos (half-up-zero (100 * t))
 
 -- a term's magnitude, by a bound on its numerator
 pub term-high : (k : ℕ) (e : ℤ) {d : ℕ} → 0 < d → (m : ℕ) → k * 262144 * natAbs e ≤ m * d

@@ -5,7 +5,7 @@ use native.Mathlib.Nat.{add-zero}
 use mathlib.Core.Path.{_≡_, refl, sym, ap, _∙_, subst}
 use mathlib.Core.Bool.{Bool, true, false, cond}
 use lib.Dec.{ltb, eqb}
-use mathlib.Core.List.{List, _∷_, _++_, flatten}
+use mathlib.Core.List.{List, _∷_, _++_}
 use lib.IntN.{ℤ, pos}
 use lib.ListN.{length, getD, set, replicate, length-take, length-drop, length-set}
 use lib.Seq.{sets, length-sets, getD-set-same, getD-set-other}
@@ -14,27 +14,30 @@ use Rattle.refusals.specs.declared.Answer.{Answer}
 use Rattle.refusals.specs.declared.Answer.the-variants.{Accepted, Refused}
 use Rattle.refusals.specs.declared.Refusal.{Refusal}
 use Rattle.refusals.specs.declared.Refusal.the-variants.{Record}
-use Rattle.refusals.specs.Refusals.{numberOf, _⇒_, firstOf}
-use Rattle.refusals.specs.Refusals.Laws.{accepted-only, accepted-at, accepted-rest, refused-first, accepted-first}
-use Rattle.table.specs.declared.reading.Reading.{Reading}
+use Rattle.refusals.specs.Refusals.{_⇒_, firstOf}
+use Rattle.refusals.specs.Refusals.Laws.{accepted-at, accepted-rest, refused-first, accepted-first}
+use Rattle.reading.specs.Reading.{readingOf}
 use Rattle.table.specs.Words.{baseOf, blockAt}
 use Rattle.table.specs.Words.Laws.{or-false, and-true, block-apart}
-use Rattle.table.specs.Transfers.{majorOf, majorIn}
-use Rattle.table.specs.Transfers.Laws.{IsMajor, major-read}
-use Rattle.carried.specs.Layout.{fieldCount, numberCount, slotOf, outOfRange, numbersOf, recordFrom, numbersAt, recordAt, resetRecord, markedAt, markedRecord}
+use Rattle.reading.specs.Transfers.Laws.{IsMajor, read-low, major-read}
+use Rattle.carried.specs.Layout.{fieldCount, numberCount, slotOf, outOfRange, numbersOf, recordFrom, numbersAt, carriedAt, markedAt, markedRecord}
 use Rattle.carried.specs.Layout.Laws.{read-back, numbers-length, put-same, put-other, ranged, in-range, mark-same, mark-other, mark-record, mark-range}
 use Rattle.carried.specs.declared.record.Carried.{Carried}
+use Rattle.carried.specs.Former.{formerOf}
 use Rattle.carried.specs.Ranged.{Ranged}
-use Rattle.judging.specs.Judging.{readingCases, transferCases}
-use Rattle.judging.specs.Judging.Laws.{Handed, major-good}
-use Rattle.engine.specs.Sensing.{pvIn}
+use Rattle.judging.specs.Judging.{readingCases}
+use Rattle.judging.specs.Judging.Laws.{MajorGood, passed, major-good}
 use Rattle.engine.specs.Writing.{writtenTo}
 use Rattle.engine.specs.Writing.Laws.{There as Written, Other as Unwritten, written-there, written-length, written-other, written-block}
 use Rattle.engine.specs.Steps.Laws.{usable, stepped-ranged}
 use Rattle.engine.specs.Premises.{Usable}
-use Rattle.desk.specs.declared.finding.Found.the-variants.{Loop}
-use Rattle.desk.specs.declared.finding.Found.the-variants.{Refused as No}
-use Rattle.desk.specs.Desk.{Desk, lent, fittingOf, memoryCases, leftBy, resetDesk, resetAnswer, resetLeft, noLoop, loopCases, foundBy, foundAt, readingAt, judgedCases, stepAt, marks, transferLeft, doneBy, sampleDone, sampleAnswer, judgedAnswer, copiedBy}
+use Rattle.desk.specs.declared.admitting.Admitted.{Admitted}
+use Rattle.desk.specs.declared.admitting.Admission.the-variants.{Sample}
+use Rattle.desk.specs.declared.admitting.Admission.the-variants.{Refused as Turned}
+use Rattle.desk.specs.declared.sampling.Line.{Line}
+use Rattle.desk.specs.declared.sampling.Sampled.the-variants.{Shown}
+use Rattle.desk.specs.declared.sampling.Sampled.the-variants.{Refused as Unshown}
+use Rattle.desk.specs.Desk.{Desk, lent, fittingOf, memoryCases, leftBy, resetDesk, resetAnswer, resetLeft, noLoop, loopCases, readingAt, pvAt, sampleAnswer, admittedAt, admissionBy, admissionAt, stepAt, marks, transferLeft, doneBy, sampleDone, sampleLeft, lineAt, shownBy, answerShown, sampledAt, copiedBy}
 
 -- ---- any call
 
@@ -82,54 +85,37 @@ known ns k e f = let p = loop-there k e in record { above = p .0; below = p .1; 
 pub known-loop : (ns : List ℤ) (k : ℕ) → firstOf (loopCases ns k) ≡ Accepted → Known ns k
 known-loop ns k e = let no = accepted-at (loopCases ns k) e in known ns k (no 0) (no 1)
 
--- ---- what was found of a loop
+-- ---- a sample's tests, one group after the other
 
-refused-by : (a : Answer) (c : Carried) {why : Refusal} → foundBy a c ≡ No why → a ≡ Refused why
-refused-by Accepted c e = absurd (let z : _≡_ {A = ℕ} 0 1 = cc in omega arith)
-refused-by (Refused other) c e = cc
+module _ (d : Desk) (k raw : ℕ) (fit : fittingOf d ≡ true) where
+  -- where there is no such loop, or its record is out of range
+  pub loop-refused : {why : Refusal} → firstOf (loopCases (d .numbers) k) ≡ Refused why → sampleAnswer d k raw ≡ Refused why
+  unfolding sampleAnswer
+  loop-refused e = rw fit (refused-first (loopCases (d .numbers) k) (readingCases (readingAt d k) raw) e)
 
-loop-by : (a : Answer) (x : Carried) {c : Carried} → foundBy a x ≡ Loop c → (a ≡ Accepted) × (c ≡ x)
-loop-by Accepted x e = (refl, cc)
-loop-by (Refused why) x e = absurd (let z : _≡_ {A = ℕ} 0 1 = cc in omega arith)
+  -- else what is read decides
+  pub past-loop : firstOf (loopCases (d .numbers) k) ≡ Accepted → sampleAnswer d k raw ≡ firstOf (readingCases (readingAt d k) raw)
+  unfolding sampleAnswer
+  past-loop e = rw fit (accepted-first (loopCases (d .numbers) k) (readingCases (readingAt d k) raw) e)
 
--- where it was refused, so is every sample
-pub found-refused : (d : Desk) (k raw : ℕ) {why : Refusal} → foundAt d k ≡ No why → sampleAnswer d k raw ≡ Refused why
-unfolding foundAt sampleAnswer
-found-refused d k raw e =
-    refused-first (memoryCases d ++ loopCases (d .numbers) k) (judgedCases (d .words) k (readingAt d k) raw) (refused-by _ (recordAt (d .numbers) k) e)
+-- ---- an admission
 
--- what is tested before N11 refuses alike whatever N11 says; past it N11 decides
-pub judged-refused : (ws : List ℕ) (k : ℕ) (r : Reading) (raw : ℕ) {why : Refusal} → firstOf (readingCases r raw) ≡ Refused why
-    → firstOf (judgedCases ws k r raw) ≡ Refused why
-judged-refused ws k r raw e = refused-first (readingCases r raw) (transferCases (r .transfer) (majorIn ws k (r .settings .pointer)) (pvIn r raw)) e
+module _ (d : Desk) (k raw : ℕ) where
+  pub admission-refused : {why : Refusal} → admissionAt d k raw ≡ Turned why → sampleAnswer d k raw ≡ Refused why
+  unfolding admissionAt
+  admission-refused = by (sampleAnswer d k raw)
+    where
+      by : (a : Answer) {why : Refusal} → admissionBy a (admittedAt d k raw) ≡ Turned why → a ≡ Refused why
+      by Accepted e = absurd (let z : _≡_ {A = ℕ} 0 1 = cc in omega arith)
+      by (Refused other) e = cc
 
-pub judged-past : (ws : List ℕ) (k : ℕ) (r : Reading) (raw : ℕ) → firstOf (readingCases r raw) ≡ Accepted
-    → firstOf (judgedCases ws k r raw) ≡ firstOf (transferCases (r .transfer) (majorIn ws k (r .settings .pointer)) (pvIn r raw))
-judged-past ws k r raw e = accepted-first (readingCases r raw) (transferCases (r .transfer) (majorIn ws k (r .settings .pointer)) (pvIn r raw)) e
-
--- where there is one, the reading decides
-pub record There (d : Desk) (k : ℕ) (c : Carried) : Type 0 where
-  pub memory : Sound d
-  pub above : 1 ≤ k
-  pub below : k ≤ 16
-  pub record′ : c ≡ recordAt (d .numbers) k
-  pub range : Ranged c
-  pub judged : (raw : ℕ) → sampleAnswer d k raw ≡ judgedAnswer d k raw
-
-pub found-loop : (d : Desk) (k : ℕ) {c : Carried} → foundAt d k ≡ Loop c → There d k c
-unfolding foundAt sampleAnswer
-found-loop d k {c} e =
-    let f = loop-by (firstOf (memoryCases d ++ loopCases (d .numbers) k)) (recordAt (d .numbers) k) e in
-    let p = accepted-rest (memoryCases d) (loopCases (d .numbers) k) (f .0) in
-    let loop = known-loop (d .numbers) k (p .1) in
-    record {
-      memory = sound d (fits d (p .0));
-      above = loop .above;
-      below = loop .below;
-      record′ = f .1;
-      range = rw (f .1) (ranged (numbersAt (d .numbers) (slotOf k)) (loop .range));
-      judged = λ raw. accepted-first (memoryCases d ++ loopCases (d .numbers) k) (judgedCases (d .words) k (readingAt d k) raw) (f .0);
-    }
+  pub admission-sample : {a : Admitted} → admissionAt d k raw ≡ Sample a → (sampleAnswer d k raw ≡ Accepted) × (a ≡ admittedAt d k raw)
+  unfolding admissionAt
+  admission-sample = by (sampleAnswer d k raw)
+    where
+      by : (x : Answer) {a : Admitted} → admissionBy x (admittedAt d k raw) ≡ Sample a → (x ≡ Accepted) × (a ≡ admittedAt d k raw)
+      by Accepted e = (refl, cc)
+      by (Refused why) e = absurd (let z : _≡_ {A = ℕ} 0 1 = cc in omega arith)
 
 -- ---- an accepted sample
 
@@ -137,37 +123,30 @@ pub record Sampled (d : Desk) (k raw : ℕ) : Type 0 where
   pub memory : Sound d
   pub above : 1 ≤ k
   pub below : k ≤ 16
-  pub carried : Ranged (recordAt (d .numbers) k)
-  pub reading : Usable (readingAt d k) raw
-  pub transfer : readingAt d k .transfer ≡ true → Handed (majorIn (d .words) k (readingAt d k .settings .pointer)) (pvIn (readingAt d k) raw)
+  pub carried : Ranged (carriedAt (d .numbers) k)
+  pub reading : Usable (readingAt d k) (pvAt d k raw)
+  pub transfer : readingAt d k .transfer ≡ true → MajorGood (readingAt d k .major) (pvAt d k raw)
 
 pub sampled : (d : Desk) (k raw : ℕ) → sampleAnswer d k raw ≡ Accepted → Sampled d k raw
 unfolding sampleAnswer
 sampled d k raw e =
-    let p = accepted-rest (memoryCases d) (loopCases (d .numbers) k ++ judgedCases (d .words) k (readingAt d k) raw) e in
-    let q = accepted-rest (loopCases (d .numbers) k) (judgedCases (d .words) k (readingAt d k) raw) (p .1) in
+    let p = accepted-rest (memoryCases d) (loopCases (d .numbers) k ++ readingCases (readingAt d k) raw) e in
+    let q = accepted-rest (loopCases (d .numbers) k) (readingCases (readingAt d k) raw) (p .1) in
     let loop = known-loop (d .numbers) k (q .0) in
-    let c = recordAt (d .numbers) k in
+    let c = carriedAt (d .numbers) k in
     let in-rows : Ranged c = ranged (numbersAt (d .numbers) (slotOf k)) (loop .range) in
-    let r = readingAt d k in
-    let m = majorIn (d .words) k (r .settings .pointer) in
-    let j = accepted-rest (readingCases r raw) (transferCases (r .transfer) m (pvIn r raw)) (q .1) in
     record {
       memory = sound d (fits d (p .0));
       above = loop .above;
       below = loop .below;
       carried = in-rows;
-      reading = usable (d .words) k (c .state .mode) (c .state .profile .segment) raw (in-rows .profile .segment) (j .0);
-      transfer = λ on. major-good m (pvIn r raw) (rw on at (accepted-at (transferCases (r .transfer) m (pvIn r raw)) (j .1) 0));
+      reading = usable (d .words) k (formerOf (c .state)) raw (in-rows .profile .segment) (q .1);
+      transfer = λ on. major-good (readingAt d k .major) (pvAt d k raw) (rw on at (passed (readingAt d k) raw (q .1) .major));
     }
-
--- so an answer of 0 is that of a loop that there is
-pub zero-loop : (d : Desk) (k raw : ℕ) → numberOf (sampleAnswer d k raw) ≡ 0 → (1 ≤ k) × (k ≤ 16)
-zero-loop d k raw e = let s = sampled d k raw (accepted-only _ e) in (s .above, s .below)
 
 -- past N5 and N4 the record and the reading decide
 pub answer-ranged : (d : Desk) (k raw : ℕ) → fittingOf d ≡ true → 1 ≤ k → k ≤ 16
-    → sampleAnswer d k raw ≡ firstOf ((outOfRange (numbersAt (d .numbers) (slotOf k)) ⇒ Record) ∷ judgedCases (d .words) k (readingAt d k) raw)
+    → sampleAnswer d k raw ≡ firstOf ((outOfRange (numbersAt (d .numbers) (slotOf k)) ⇒ Record) ∷ readingCases (readingAt d k) raw)
 unfolding sampleAnswer
 answer-ranged d k raw fit above below = rw (fit, there-loop k above below)
 
@@ -194,7 +173,7 @@ module _ (d : Desk) (k raw : ℕ) (s : Sampled d k raw) where
   transfer = readingAt d k .transfer
 
   abbrev major : ℕ
-  major = majorOf k (readingAt d k .settings .pointer)
+  major = readingAt d k .major .number
 
   abbrev next : Carried
   next = stepAt d k raw .carried
@@ -205,8 +184,8 @@ module _ (d : Desk) (k raw : ℕ) (s : Sampled d k raw) where
 
   -- a major loop is another one of the sixteen
   pub major-there : transfer ≡ true → IsMajor k (readingAt d k .settings .pointer) major
-  unfolding majorIn
-  major-there on = major-read (d .words) k (readingAt d k .settings .pointer) (s .transfer on .number) .0
+  unfolding readingOf
+  major-there on = major-read (d .words) transfer k (readingAt d k .settings .pointer) (s .transfer on .number) .0
 
   pub own-numbers : numbersAt (sampleDone d k raw .numbers) (slotOf k) ≡ numbersOf next
   unfolding doneBy transferLeft
@@ -272,7 +251,7 @@ module _ (d : Desk) (k raw : ℕ) (s : Sampled d k raw) where
       (λ on. getD-set-other (writtenTo (d .words) (baseOf k) w) (baseOf major + 5) i (w .pv) 0 (λ e. apart on (e ∙ sym (major-there on .output))) ∙ own)
       (λ _. own)
 
-  pub own-record : recordAt (sampleDone d k raw .numbers) k ≡ next
+  pub own-record : carriedAt (sampleDone d k raw .numbers) k ≡ next
   own-record = ap recordFrom own-numbers ∙ read-back next
 
   pub own-range : outOfRange (numbersAt (sampleDone d k raw .numbers) (slotOf k)) ≡ false
@@ -283,14 +262,14 @@ module _ (d : Desk) (k raw : ℕ) (s : Sampled d k raw) where
     before : numbersAt put (slotOf j) ≡ numbersAt (d .numbers) (slotOf j)
     before = put-other (d .numbers) (numbersOf next) k j (numbers-length next) (s .above) first other
 
-    pub other-numbers : marks k (readingAt d k) j ≡ false → numbersAt (sampleDone d k raw .numbers) (slotOf j) ≡ numbersAt (d .numbers) (slotOf j)
+    pub other-numbers : marks (readingAt d k) j ≡ false → numbersAt (sampleDone d k raw .numbers) (slotOf j) ≡ numbersAt (d .numbers) (slotOf j)
     unfolding doneBy transferLeft
     other-numbers none =
         by-transfer (λ (e : Desk). numbersAt (e .numbers) (slotOf j) ≡ numbersAt (d .numbers) (slotOf j)) transfer
         (λ on. mark-other put major j (major-there on .above) first (λ e. eqb-false major j (rw on at none) (sym e)) ∙ before)
         (λ _. before)
 
-    pub marked-numbers : marks k (readingAt d k) j ≡ true
+    pub marked-numbers : marks (readingAt d k) j ≡ true
         → numbersAt (sampleDone d k raw .numbers) (slotOf j) ≡ set (numbersAt (d .numbers) (slotOf j)) 13 (pos 1)
     unfolding doneBy transferLeft
     marked-numbers all =
@@ -305,25 +284,63 @@ module _ (d : Desk) (k raw : ℕ) (s : Sampled d k raw) where
     size last = simp (length-take, length-drop) (omega (arith, s .memory .numbers))
 
     pub other-record : j ≤ 16
-        → recordAt (sampleDone d k raw .numbers) j ≡ cond (marks k (readingAt d k) j) (markedRecord (recordAt (d .numbers) j)) (recordAt (d .numbers) j)
-    other-record last = go (marks k (readingAt d k) j) refl
+        → carriedAt (sampleDone d k raw .numbers) j ≡ cond (marks (readingAt d k) j) (markedRecord (carriedAt (d .numbers) j)) (carriedAt (d .numbers) j)
+    other-record last = go (marks (readingAt d k) j) refl
       where
-        go : (b : Bool) → marks k (readingAt d k) j ≡ b → recordAt (sampleDone d k raw .numbers) j ≡ cond b (markedRecord (recordAt (d .numbers) j)) (recordAt (d .numbers) j)
+        go : (b : Bool) → marks (readingAt d k) j ≡ b → carriedAt (sampleDone d k raw .numbers) j ≡ cond b (markedRecord (carriedAt (d .numbers) j)) (carriedAt (d .numbers) j)
         go true e = ap recordFrom (marked-numbers e) ∙ mark-record (numbersAt (d .numbers) (slotOf j)) (size last)
         go false e = ap recordFrom (other-numbers e)
 
     pub other-range : j ≤ 16 → outOfRange (numbersAt (d .numbers) (slotOf j)) ≡ false → outOfRange (numbersAt (sampleDone d k raw .numbers) (slotOf j)) ≡ false
-    other-range last h = go (marks k (readingAt d k) j) refl
+    other-range last h = go (marks (readingAt d k) j) refl
       where
-        go : (b : Bool) → marks k (readingAt d k) j ≡ b → outOfRange (numbersAt (sampleDone d k raw .numbers) (slotOf j)) ≡ false
+        go : (b : Bool) → marks (readingAt d k) j ≡ b → outOfRange (numbersAt (sampleDone d k raw .numbers) (slotOf j)) ≡ false
         go true e = rw (marked-numbers e) (mark-range (numbersAt (d .numbers) (slotOf j)) (size last) h)
         go false e = rw (other-numbers e) h
+
+-- ---- what a sample answers and leaves
+
+-- of a refused one nothing is shown, and nothing changes
+pub shown-refused : (d : Desk) (k raw : ℕ) {why : Refusal} → sampleAnswer d k raw ≡ Refused why → (Unshown why ≡ sampledAt d k raw) × (d ≡ sampleLeft d k raw)
+unfolding sampledAt sampleLeft
+shown-refused d k raw e = (rw e, rw e)
+
+-- of an accepted one the words that were written are shown
+pub shown-done : (d : Desk) (k raw : ℕ) → sampleAnswer d k raw ≡ Accepted → let w = stepAt d k raw .written in
+    (Shown (record { setpoint = w .setpoint; pv = w .pv; output = w .output; status = w .status }) ≡ sampledAt d k raw)
+    × (sampleDone d k raw ≡ sampleLeft d k raw)
+unfolding sampledAt sampleLeft
+shown-done d k raw e =
+    let there = own-words d k raw (sampled d k raw e) in
+    (rw (e, there .setpoint, there .pv, there .output, there .status), rw e)
+
+-- and the answer is that of the sample
+pub answer-shown : (d : Desk) (k raw : ℕ) → answerShown (sampledAt d k raw) ≡ sampleAnswer d k raw
+unfolding sampledAt
+answer-shown d k raw = by (sampleAnswer d k raw) (lineAt (sampleLeft d k raw .words) k)
+  where
+    by : (a : Answer) (l : Line) → answerShown (shownBy a l) ≡ a
+    by Accepted l = refl
+    by (Refused why) l = refl
+
+pub line-shown : (d : Desk) (k raw : ℕ) {l : Line} → sampledAt d k raw ≡ Shown l → l ≡ lineAt (sampleLeft d k raw .words) k
+unfolding sampledAt
+line-shown d k raw = by (sampleAnswer d k raw) (lineAt (sampleLeft d k raw .words) k)
+  where
+    by : (a : Answer) (m : Line) {l : Line} → shownBy a m ≡ Shown l → l ≡ m
+    by Accepted m e = cc
+    by (Refused why) m e = absurd (let z : _≡_ {A = ℕ} 0 1 = cc in omega arith)
+
+-- the major loop is none above 16
+pub major-few : (d : Desk) (k : ℕ) → readingAt d k .major .number ≤ 16
+unfolding readingOf
+major-few d k = read-low (d .words) _ k _
 
 -- ---- reset
 
 -- the numbers at reset are 0 everywhere
 pub reset-numbers : resetDesk ≡ lent (replicate 1024 0) (replicate numberCount (pos 0))
-unfolding resetDesk numbersOf resetRecord flatten
+unfolding resetDesk
 reset-numbers = refl
 
 -- and that many

@@ -8,8 +8,8 @@ use lib.Signed.{_≤ℤ_}
 use Rattle.numbers.specs.Whole.{linear, add, sub, abs, abs-in, abs-sub}
 use Rattle.numbers.specs.Limits.Laws.{by-test, clamped, orderℕ}
 use Rattle.numbers.specs.Rounding.{unitsOf}
-use Rattle.table.specs.declared.settings.Mode2.{Mode2}
-use Rattle.table.specs.declared.settings.Settings.{Settings}
+use Rattle.reading.specs.declared.settings.Mode2.{Mode2}
+use Rattle.reading.specs.declared.settings.Settings.{Settings}
 use Rattle.control.specs.declared.forms.Drive.{Drive}
 use Rattle.control.specs.declared.terms.Inputs.{Inputs}
 use Rattle.control.specs.Counts.Laws.{counts-word, counts-same}

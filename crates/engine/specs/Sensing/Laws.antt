@@ -1,14 +1,11 @@
--- The laws of what is sensed: PV and setpoint are within the full scale, the profile is in its ranges.
-use Prim.Native.Nat.{ℕ, _*_, _≤_, _<_}
-use native.Mathlib.Omega.{arith}
-use native.Mathlib.Nat.{mul-le-mul, mul-le-mul-right}
+-- The laws of what is sensed: the setpoint is within the full scale, the profile is in its ranges.
+use Prim.Native.Nat.{ℕ, _≤_, _<_}
 use mathlib.Core.Path.{_≡_}
 use mathlib.Core.Bool.{Bool, not, _&&_, _||_}
 use lib.IntN.{pos, natAbs}
 use Rattle.numbers.specs.Limits.Laws.{by-test}
-use Rattle.numbers.specs.Roots.Laws.{root-exact, root-high}
-use Rattle.table.specs.declared.settings.Settings.{Settings}
-use Rattle.table.specs.declared.reading.Reading.{Reading}
+use Rattle.reading.specs.declared.settings.Settings.{Settings}
+use Rattle.reading.specs.declared.reading.Reading.{Reading}
 use Rattle.table.specs.Modes.{isAutomatic, isCascade}
 use Rattle.control.specs.Counts.{outputCounts}
 use Rattle.control.specs.Counts.Laws.{Matched, counts-high}
@@ -18,15 +15,7 @@ use Rattle.profile.specs.declared.state.Profile.{Profile}
 use Rattle.profile.specs.declared.sampling.Profiled.{Profiled}
 use Rattle.profile.specs.Moves.Laws.{Within, advanced-within, advanced-scale}
 use Rattle.profile.specs.Samples.{sampledBy}
-use Rattle.engine.specs.Sensing.{pvOf, setpointOf, targetOf, profiledOf, errorIn}
-
-pub pv-high : (root : Bool) {scale raw : ℕ} → scale ≤ 65535 → raw ≤ scale → pvOf root scale raw ≤ scale
-unfolding pvOf
-pv-high root {scale} {raw} h l =
-    by-test (λ p. p ≤ scale) root
-    (λ _. root-high (root-exact (raw * scale) (omega (arith, mul-le-mul {n₁ = raw} {m₁ = scale} {n₂ = 65535} {m₂ = 65535} (omega arith) h)))
-    scale (omega (arith, mul-le-mul-right scale l)))
-    (λ _. l)
+use Rattle.engine.specs.Sensing.{setpointOf, targetOf, profiledOf, errorIn}
 
 pub target-high : (r : Reading) (change runs : Bool) {p scale : ℕ} → p ≤ scale → setpointOf r ≤ scale → targetOf r change runs p ≤ scale
 unfolding targetOf
@@ -48,13 +37,13 @@ module _ (r : Reading) {q : Profile} (w : Within q) (target p : ℕ) where
       (λ _. advanced-scale (r .program) q target scale (w .fraction) h e (r .settings .stored .flags) (r .settings .tuning .period))
 
 -- with the setpoint at the PV there is no error
-pub settled-error : (s : Settings) (p : ℕ) → 0 < s .mode2 .output .scale → errorIn s p p ≡ pos 0
+pub settled-error : (s : Settings) (p : ℕ) → 0 < s .mode2 .output .scale → errorIn s p p (outputCounts (s .mode2) p) ≡ pos 0
 unfolding errorIn
 settled-error s p some = error-none (inDeadband (s .mode1 .deadband) (s .deadband) p p) (s .mode1 .squared) (outputCounts (s .mode2) p) some
 
 -- setpoint and PV within the input's full scale leave an error within the output's
 pub sensed-error : (s : Settings) → Matched (s .mode2) → 0 < s .mode2 .output .scale → {target p : ℕ} → target ≤ s .mode2 .input .scale
-    → p ≤ s .mode2 .input .scale → natAbs (errorIn s target p) ≤ s .mode2 .output .scale
+    → p ≤ s .mode2 .input .scale → natAbs (errorIn s target p (outputCounts (s .mode2) p)) ≤ s .mode2 .output .scale
 unfolding errorIn
 sensed-error s matched some {target} {p} h l =
     error-high (inDeadband (s .mode1 .deadband) (s .deadband) target p) (s .mode1 .squared) some

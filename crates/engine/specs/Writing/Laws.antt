@@ -2,11 +2,14 @@
 use Prim.Native.Nat.{ℕ, _+_, _≤_, _<_}
 use native.Mathlib.Omega.{arith}
 use native.Mathlib.Nat.{add-zero}
-use mathlib.Core.Path.{_≡_, _∙_}
+use mathlib.Core.Path.{_≡_, refl, sym, _∙_}
+use mathlib.Core.Bool.{Bool, true, false}
 use mathlib.Core.Logic.{_≢_}
 use mathlib.Core.List.{List}
 use lib.ListN.{length, getD, set, length-set}
-use lib.Seq.{getD-set-same, getD-set-other, drop-set-add, take-set-lt}
+use lib.Seq.{set-out, getD-set-same, getD-set-other, drop-set-add, take-set-lt}
+use lib.Dec.{ltb, eqb}
+use borrow.Author.Tests.{ltb-true, ltb-false, eqb-true, eqb-false}
 use Rattle.table.specs.Words.{blockAt}
 use Rattle.engine.specs.declared.writing.Written.{Written}
 use Rattle.engine.specs.Writing.{writtenTo}
@@ -98,3 +101,33 @@ module _ (ws : List ℕ) (base : ℕ) (w : Written) where
       let h27 : 27 < 32 = omega arith in
       let h29 : 29 < 32 = omega arith in
       rw first (simp (drop-set-add, take-set-lt))
+
+-- ---- the same words written twice
+
+-- two lists of one length that have the same word at i
+pub record Both (i : ℕ) (ws ws′ : List ℕ) : Type 0 where
+  pub size : length ws ≡ length ws′
+  pub same : getD ws i 0 ≡ getD ws′ i 0
+
+-- have it still after one store to both
+stored : {ws ws′ : List ℕ} {i : ℕ} (j v : ℕ) → Both i ws ws′ → Both i (set ws j v) (set ws′ j v)
+stored {ws} {ws′} {i} j v b = record { size = simp length-set (b .size); same = go (eqb i j) refl (ltb j (length ws)) refl }
+  where
+    go : (t : Bool) → eqb i j ≡ t → (u : Bool) → ltb j (length ws) ≡ u → getD (set ws j v) i 0 ≡ getD (set ws′ j v) i 0
+    go false e u f = let other = eqb-false i j e in getD-set-other ws j i v 0 other ∙ b .same ∙ sym (getD-set-other ws′ j i v 0 other)
+    go true e true f =
+        let h = ltb-true j (length ws) f in
+        rw (eqb-true i j e) (getD-set-same ws j v 0 h ∙ sym (getD-set-same ws′ j v 0 (omega (arith, b .size))))
+    go true e false f =
+        let h = ltb-false j (length ws) f in
+        rw (set-out ws j v h, set-out ws′ j v (omega (arith, b .size))) (b .same)
+
+-- and after all eight
+pub written-both : {ws ws′ : List ℕ} {i : ℕ} (base : ℕ) (w : Written) → Both i ws ws′ → Both i (writtenTo ws base w) (writtenTo ws′ base w)
+unfolding writtenTo
+written-both base w b =
+    stored (base + 29) (w .fault)
+    (stored (base + 27) (w .flags)
+    (stored (base + 6) (w .status)
+    (stored (base + 5) (w .output)
+    (stored (base + 4) (w .bias) (stored (base + 3) (w .pv) (stored (base + 2) (w .setpoint) (stored base (w .word) b)))))))

@@ -8,23 +8,19 @@ use borrow.Author.Tests.{ltb-false, eqb-false, le-ltb, ne-eqb}
 use Rattle.refusals.specs.declared.Answer.the-variants.{Accepted}
 use Rattle.refusals.specs.Refusals.{firstOf}
 use Rattle.refusals.specs.Refusals.Laws.{accepted-at}
-use Rattle.table.specs.declared.settings.Tuning.{Tuning}
-use Rattle.table.specs.declared.settings.OutputLimits.{OutputLimits}
-use Rattle.table.specs.declared.transfer.Major.{Major}
-use Rattle.table.specs.declared.reading.Reading.{Reading}
+use Rattle.reading.specs.declared.settings.Tuning.{Tuning}
+use Rattle.reading.specs.declared.settings.OutputLimits.{OutputLimits}
+use Rattle.reading.specs.declared.transfer.Major.{Major}
+use Rattle.reading.specs.declared.reading.Reading.{Reading}
 use Rattle.table.specs.Words.Laws.{or-false}
-use Rattle.judging.specs.Judging.{badModes, badTimes, badLimits, badSetpoint, readingCases, badMajor, Passed}
+use Rattle.judging.specs.Judging.{badModes, badTimes, badLimits, badSetpoint, badMajor, readingCases, Passed}
 
 pub passed : (r : Reading) (raw : ℕ) → firstOf (readingCases r raw) ≡ Accepted → Passed r raw
 passed r raw e =
     let no = accepted-at (readingCases r raw) e in
     let s = r .settings in
     let setting = or-false (badModes (s .mode1) (s .mode2 .unused) (s .alarms .hysteresis)) (r .program .highend) (no 1) in
-    record { digit = no 0; modes = setting .0; ends = setting .1; times = no 2; limits = no 3; setpoint = no 4; above = no 5 }
-
--- and the reverse
-pub passing : (r : Reading) (raw : ℕ) → Passed r raw → firstOf (readingCases r raw) ≡ Accepted
-passing r raw p = rw (p .digit, p .modes, p .ends, p .times, p .limits, p .setpoint, p .above)
+    record { digit = no 0; modes = setting .0; ends = setting .1; times = no 2; limits = no 3; setpoint = no 4; above = no 5; major = no 6 }
 
 -- ---- and what a group that has passed says
 
@@ -46,17 +42,17 @@ setpoint-good true scale setpoint pointer remote e = ltb-false _ _ (or-false (lt
 setpoint-good false scale setpoint pointer remote e = ltb-false _ _ (or-false (ltb scale setpoint) false e .0)
 
 -- a transfer has a major loop, and p is inside its limits
-pub record Handed (m : Major) (p : ℕ) : Type 0 where
+pub record MajorGood (m : Major) (p : ℕ) : Type 0 where
   pub number : m .number ≡ 0 → ⊥
   pub low : m .limits .low ≤ p
   pub high : p ≤ m .limits .high
 
-pub major-good : (m : Major) (p : ℕ) → badMajor m p ≡ false → Handed m p
+pub major-good : (m : Major) (p : ℕ) → badMajor true m p ≡ false → MajorGood m p
 major-good m p e =
     let h = or-false (eqb (m .number) 0 || ltb p (m .limits .low)) (ltb (m .limits .high) p) e in
     let l = or-false (eqb (m .number) 0) (ltb p (m .limits .low)) (h .0) in
     record { number = eqb-false _ _ (l .0); low = ltb-false _ _ (l .1); high = ltb-false _ _ (h .1) }
 
 -- and one that has is not refused
-pub good-major : (m : Major) (p : ℕ) → Handed m p → badMajor m p ≡ false
+pub good-major : (m : Major) (p : ℕ) → MajorGood m p → badMajor true m p ≡ false
 good-major m p h = rw (ne-eqb (m .number) 0 (h .number), le-ltb p (m .limits .low) (h .low), le-ltb (m .limits .high) p (h .high))

@@ -5,14 +5,8 @@ use borrow.Author.Needs.{needs}
 use Rattle.kexbardi.proofs.kexbardi_record.Statement.{statement}
 use Rattle.kexbardi.proofs.kexbardi_record.Tie as tie
 
-fields-requires : tie.Need-fields-requires
-fields-requires c κs = search needs
-
-number-of-requires : tie.Need-number-of-requires
-number-of-requires c κs = search needs
-
 returns : tie.Need-returns
 returns c = let d = c .before in (c .number-of .ensures ∙ ap numberOf (d .fields .ensures .0), d .fields .ensures .1)
 
 pub kexbardi-record-spec : {M : Type 1} → statement M
-kexbardi-record-spec = tie.close (tie.spec fields-requires number-of-requires returns)
+kexbardi-record-spec = tie.close (tie.spec (λ c κs. search needs) (λ c κs. search needs) returns)

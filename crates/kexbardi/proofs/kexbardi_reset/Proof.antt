@@ -5,21 +5,9 @@ use borrow.Author.Needs.{needs}
 use Rattle.kexbardi.proofs.kexbardi_reset.Statement.{statement}
 use Rattle.kexbardi.proofs.kexbardi_reset.Tie as tie
 
-reset-requires : tie.Need-reset-requires
-reset-requires c κs = search needs
-
-number-of-requires : tie.Need-number-of-requires
-number-of-requires c κs = search needs
-
-same-length : tie.Need-same-length
-same-length c = search needs
-
-same-length-2 : tie.Need-same-length-2
-same-length-2 c = search needs
-
 returns : tie.Need-returns
 returns c = let d = c .before .before .before .before in (c .number-of .ensures ∙ ap numberOf (d .reset .ensures .0), d .reset .ensures .1)
 
 pub kexbardi-reset-spec : {M : Type 1} → statement M
 kexbardi-reset-spec =
-    tie.close (tie.spec reset-requires number-of-requires same-length same-length-2 returns)
+    tie.close (tie.spec (λ c κs. search needs) (λ c κs. search needs) (λ c. search needs) (λ c. search needs) returns)

@@ -6,18 +6,9 @@ use borrow.Author.Needs.{needs}
 use Rattle.kexbardi_files.proofs.kexbardi_print.Statement.{statement}
 use Rattle.kexbardi_files.proofs.kexbardi_print.Tie as tie
 
-drill-requires : tie.Need-drill-requires
-drill-requires c κs = search needs
-
-same-length : tie.Need-same-length
-same-length c = search needs
-
 returns : tie.Need-returns
 unfolding printLeft
 returns c = (print-none _ _ (c .before .before .before .drill .ensures .1 .1) (c .if1 .taken), λ e. absurd (omega (arith, e)))
-
-same-length-2 : tie.Need-same-length-2
-same-length-2 c = search needs
 
 returns-2 : tie.Need-returns-2
 unfolding printLeft
@@ -25,4 +16,4 @@ returns-2 c = let d = c .before .before .before in (print-some _ _ (d .drill .en
 
 pub kexbardi-print-spec : {M : Type 1} → statement M
 kexbardi-print-spec =
-    tie.close (tie.spec drill-requires same-length returns same-length-2 returns-2)
+    tie.close (tie.spec (λ c κs. search needs) (λ c. search needs) returns (λ c. search needs) returns-2)

@@ -17,21 +17,6 @@ told : (words out : List ℕ) (size : ℕ) {w : Wrote} {after : List ℕ} → w 
 unfolding setupFilled
 told words out size answer left = rw (answer, left)
 
-write-setup-requires : tie.Need-write-setup-requires
-write-setup-requires c κs = search needs
-
-enum-known-wrote : tie.Need-enum-known-wrote
-enum-known-wrote c = search needs
-
-number-of-requires : tie.Need-number-of-requires
-number-of-requires c κs = search needs
-
-enum-known-wrote-2 : tie.Need-enum-known-wrote-2
-enum-known-wrote-2 c = search needs
-
-same-length : tie.Need-same-length
-same-length c = search needs
-
 returns : tie.Need-returns
 returns c =
     let h = c .before .before in
@@ -39,9 +24,6 @@ returns c =
     let a = w .before .before .before .before .args in
     rw (c .number-of .ensures)
     (told (now (a .words)) (now (a .out)) (now (a .size)) (sym (h .wrote .given .1) ∙ w .write-setup .ensures .0) (w .write-setup .ensures .1))
-
-same-length-2 : tie.Need-same-length-2
-same-length-2 c = search needs
 
 returns-2 : tie.Need-returns-2
 returns-2 c =
@@ -54,11 +36,11 @@ pub kexbardi-setup-spec : {M : Type 1} → statement M
 kexbardi-setup-spec =
     tie.close
     (tie.spec
-    write-setup-requires
-    enum-known-wrote
-    number-of-requires
-    enum-known-wrote-2
-    same-length
+    (λ c κs. search needs)
+    (λ c. search needs)
+    (λ c κs. search needs)
+    (λ c. search needs)
+    (λ c. search needs)
     returns
-    same-length-2
+    (λ c. search needs)
     returns-2)

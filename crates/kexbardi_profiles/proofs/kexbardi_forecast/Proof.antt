@@ -7,18 +7,6 @@ use borrow.Author.Needs.{needs}
 use Rattle.kexbardi_profiles.proofs.kexbardi_forecast.Statement.{statement}
 use Rattle.kexbardi_profiles.proofs.kexbardi_forecast.Tie as tie
 
-forecast-requires : tie.Need-forecast-requires
-forecast-requires c κs = search needs
-
-enum-known-answer : tie.Need-enum-known-answer
-enum-known-answer c = search needs
-
-number-of-requires : tie.Need-number-of-requires
-number-of-requires c κs = search needs
-
-enum-known-answer-2 : tie.Need-enum-known-answer-2
-enum-known-answer-2 c = search needs
-
 returns : tie.Need-returns
 returns c =
     let h = c .before .before in
@@ -37,9 +25,9 @@ pub kexbardi-forecast-spec : {M : Type 1} → statement M
 kexbardi-forecast-spec =
     tie.close
     (tie.spec
-    forecast-requires
-    enum-known-answer
-    number-of-requires
-    enum-known-answer-2
+    (λ c κs. search needs)
+    (λ c. search needs)
+    (λ c κs. search needs)
+    (λ c. search needs)
     returns
     returns-2)

@@ -9,9 +9,6 @@ use Rattle.lines.proofs.put_last.Tie as tie
 put-decimal-requires : tie.Need-put-decimal-requires
 put-decimal-requires c κs = omega (arith, decimal-length 19 (c .before .before .args .count) (omega arith))
 
-slice-aggregate-put-text : tie.Need-slice-aggregate-put-text
-slice-aggregate-put-text c = search needs
-
 put-text-requires : tie.Need-put-text-requires
 put-text-requires c κs =
     let a = c .before .before .before .before .before .before .before .args in
@@ -22,17 +19,11 @@ put-decimal-requires-2 c κs =
     let a = c .before .before .before .before .before .before .before .before .before .before .before .args in
     omega (arith, decimal-length 19 (a .count) (omega arith), decimal-length 19 (a .refused) (omega arith))
 
-slice-aggregate-put-text-2 : tie.Need-slice-aggregate-put-text-2
-slice-aggregate-put-text-2 c = search needs
-
 put-text-requires-2 : tie.Need-put-text-requires-2
 put-text-requires-2 c κs =
     let e = c .before .before .before .before .before in
     let a = e .before .before .before .before .before .before .before .before .before .before .before .args in
     omega (arith, decimal-length 19 (a .count) (omega arith), decimal-length 19 (a .refused) (omega arith))
-
-same-length : tie.Need-same-length
-same-length c = search needs
 
 returns : tie.Need-returns
 unfolding lastText
@@ -54,10 +45,10 @@ put-last-spec =
     tie.close
     (tie.spec
     put-decimal-requires
-    slice-aggregate-put-text
+    (λ c. search needs)
     put-text-requires
     put-decimal-requires-2
-    slice-aggregate-put-text-2
+    (λ c. search needs)
     put-text-requires-2
-    same-length
+    (λ c. search needs)
     returns)

@@ -21,9 +21,6 @@ put-byte-requires c κs =
     let digits = decimal-length 4 (a .n) (omega arith) in
     omega (arith, s .put-said .ensures .1, d .put-decimal .ensures, digits, width-bounds (a .item))
 
-same-length : tie.Need-same-length
-same-length c = search needs
-
 returns : tie.Need-returns
 unfolding lineText
 returns c =
@@ -37,4 +34,4 @@ returns c =
 pub put-line-spec : {M : Type 1} → statement M
 put-line-spec =
     tie.close
-    (tie.spec put-decimal-requires put-said-requires put-byte-requires same-length returns)
+    (tie.spec put-decimal-requires put-said-requires put-byte-requires (λ c. search needs) returns)

@@ -4,19 +4,10 @@ use borrow.Author.Needs.{needs}
 use Rattle.lines.proofs.put_status.Statement.{statement}
 use Rattle.lines.proofs.put_status.Tie as tie
 
-put-text-requires : tie.Need-put-text-requires
-put-text-requires c κs = search needs
-
-put-hex-requires : tie.Need-put-hex-requires
-put-hex-requires c κs = search needs
-
-same-length : tie.Need-same-length
-same-length c = search needs
-
 returns : tie.Need-returns
 returns c =
     let h = c .before .before in
     written-append (h .before .before .before .before .put-text .ensures) (h .put-hex .ensures)
 
 pub put-status-spec : {M : Type 1} → statement M
-put-status-spec = tie.close (tie.spec put-text-requires put-hex-requires same-length returns)
+put-status-spec = tie.close (tie.spec (λ c κs. search needs) (λ c κs. search needs) (λ c. search needs) returns)

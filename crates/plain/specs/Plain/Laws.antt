@@ -10,7 +10,7 @@ use Rattle.numbers.specs.Whole.{linear, abs}
 use Rattle.numbers.specs.Rounding.{halfUp, unitsOf}
 use Rattle.numbers.specs.Fractions.{Fraction, over, whole, _≤ᶠ_, Near}
 use Rattle.numbers.specs.Fractions.Laws.{at-over, at-add, at-in, near-in, near-trans, count-near}
-use Rattle.table.specs.declared.reading.Reading.{Reading}
+use Rattle.reading.specs.declared.reading.Reading.{Reading}
 use Rattle.table.specs.Modes.{isManual}
 use Rattle.control.specs.declared.forms.Drive.{Drive}
 use Rattle.control.specs.Counts.{outputCounts}
@@ -29,10 +29,10 @@ use Rattle.engine.specs.Writing.{outputWord, nextOf, writtenOf}
 use Rattle.engine.specs.Steps.{stepOf}
 use Rattle.engine.specs.Steps.Laws.{drivable}
 use Rattle.engine.specs.Premises.{Usable}
-use Rattle.engine.proofs.Limits.{Between, word-inside}
+use Rattle.engine.proofs.Limits.{word-inside}
 use Rattle.plain.specs.Exact.{inCounts, exactOutput, exactBias}
 use Rattle.plain.specs.Exact.Laws.{position-near}
-use Rattle.plain.specs.Plain.{Plain, begun, countAfter, inputsOf, movedBy, plainAfter, plainMarked, tolerance}
+use Rattle.plain.specs.Plain.{Plain, begun, countAfter, inputsOf, exactMoved, plainAfter, plainMarked, tolerance}
 
 -- the states are one; and where n is above 0, a sample was accepted, the last PVs agree, and the bias is within n units of the exact one
 pub record Tied (c : Carried) (q : Plain) : Type 0 where
@@ -56,9 +56,11 @@ pub mark-tied : {c : Carried} {q : Plain} → Tied c q → Tied (markedRecord c)
 unfolding plainMarked
 mark-tied {c} {q} t = record { state = ap marked (t .state); sampled = t .sampled; last = t .last; bias = t .bias }
 
--- the claim of one accepted sample: the output word, the limits read, and the plain loop after it
-pub record Good (word low high : ℕ) (q : Plain) : Type 0 where
-  pub inside : Between low high word
+-- what is claimed of one accepted sample, q being the plain loop after it. E2: the output word is inside the limits read. E6: where n is above 0, it is
+-- near the exact output
+pub record Good (word lo hi : ℕ) (q : Plain) : Type 0 where
+  pub low : lo ≤ word
+  pub high : word ≤ hi
   pub near : 0 < q .n → Near (tolerance (q .n)) (whole (pos word)) (q .output)
 
 -- the entry's bias is exact
@@ -77,9 +79,9 @@ word-near z h =
 
 -- ---- one accepted sample
 
-module _ {r : Reading} {c : Carried} {raw : ℕ} (u : Usable r raw) (g : Ranged c) (q : Plain) where
+module _ {r : Reading} {c : Carried} {p : ℕ} (u : Usable r p) (g : Ranged c) (q : Plain) where
   abbrev x : Sensed
-  x = sensedOf r (c .state) raw
+  x = sensedOf r (c .state) p
 
   abbrev start : Drive
   start = startOf (x .entry) (heldOf (r .settings)) (c .drive)
@@ -98,10 +100,10 @@ module _ {r : Reading} {c : Carried} {raw : ℕ} (u : Usable r raw) (g : Ranged 
       × Tied (nextOf c x (drive manual)) q′
 
   -- nothing but the limits is claimed where n is 0
-  quiet : (manual : Bool) (B : Fraction) (l : ℕ) → Both manual (movedBy 0 q r x B l)
-  unfolding movedBy nextOf
+  quiet : (manual : Bool) (B : Fraction) (l : ℕ) → Both manual (exactMoved 0 q r x B l)
+  unfolding exactMoved nextOf
   quiet manual B l = (
-    record { inside = word-inside manual (drivable u g); near = λ h. absurd (omega arith) },
+    record { low = word-inside manual (drivable u g) .low; high = word-inside manual (drivable u g) .high; near = λ h. absurd (omega arith) },
     record {
       state = refl;
       sampled = λ h. absurd (omega arith);
@@ -116,8 +118,8 @@ module _ {r : Reading} {c : Carried} {raw : ℕ} (u : Usable r raw) (g : Ranged 
     unfolding movedOf movedIn
     moved-is = rw (velocity, freeze)
 
-    loud : (n : ℕ) (B : Fraction) → Near (inCounts (pos n)) (inCounts (start .bias)) B → Both false (movedBy (suc n) q r x B (past .last))
-    unfolding movedBy nextOf termsIn termsOf positionInputs outputWord tolerance
+    loud : (n : ℕ) (B : Fraction) → Near (inCounts (pos n)) (inCounts (start .bias)) B → Both false (exactMoved (suc n) q r x B (past .last))
+    unfolding exactMoved nextOf termsIn termsOf positionInputs outputWord tolerance
     loud n B h =
         let s = r .settings in
         let t = exactTerms (s .tuning) (s .mode2 .minutes) (s .mode1 .reverse) (inputsOf (past .last) (x .converted) (x .error)) in
@@ -128,14 +130,14 @@ module _ {r : Reading} {c : Carried} {raw : ℕ} (u : Usable r raw) (g : Ranged 
         let word = word-near (drive false .output) (omega (arith, linear, moved-inside (drivable u g) .low)) in
         let two : n + 2 ≡ suc n + 1 = omega arith in
         let one : n + 1 ≡ suc n = omega arith in (
-          record { inside = word-inside false (drivable u g); near = λ _. rw two at (near-trans word out) },
+          record { low = word-inside false (drivable u g) .low; high = word-inside false (drivable u g) .high; near = λ _. rw two at (near-trans word out) },
           record { state = refl; sampled = λ _. refl; last = λ _. refl; bias = λ _. rw one at next },
         )
 
   -- by whether the sample is an entry, and the plain loop's count
   abbrev after : Bool → Bool → ℕ → Plain
   after idle entry n =
-      movedBy (countAfter idle entry n) q r x (cond entry (whole (pos (heldOf (r .settings)))) (q .B))
+      exactMoved (countAfter idle entry n) q r x (cond entry (whole (pos (heldOf (r .settings)))) (q .B))
       (cond entry (x .converted) (outputCounts (r .settings .mode2) (q .last)))
 
   module _ (t : Tied c q) (velocity : r .settings .mode1 .velocity ≡ false) (freeze : r .settings .mode1 .freeze ≡ false) where
@@ -144,7 +146,7 @@ module _ {r : Reading} {c : Carried} {raw : ℕ} (u : Usable r raw) (g : Ranged 
     entered e =
         let last : past .last ≡ x .converted = rw (e, or-true (not (c .sampled))) in
         let near : Near (inCounts (pos 0)) (inCounts (start .bias)) (whole (pos (heldOf (r .settings)))) = rw e (entry-near (heldOf (r .settings))) in
-        subst (λ (l : ℕ). Both false (movedBy 1 q r x (whole (pos (heldOf (r .settings)))) l)) last (loud velocity freeze 0 _ near)
+        subst (λ (l : ℕ). Both false (exactMoved 1 q r x (whole (pos (heldOf (r .settings)))) l)) last (loud velocity freeze 0 _ near)
 
     went-on : x .entry ≡ false → (n : ℕ) → q .n ≡ n → Both false (after false false n)
     unfolding countAfter startOf pastOf keptIn
@@ -153,7 +155,7 @@ module _ {r : Reading} {c : Carried} {raw : ℕ} (u : Usable r raw) (g : Ranged 
         let above : 0 < q .n = omega arith in
         let last : past .last ≡ outputCounts (r .settings .mode2) (q .last) = rw (e, t .sampled above) (ap (outputCounts (r .settings .mode2)) (t .last above)) in
         let near : Near (inCounts (pos (suc n))) (inCounts (start .bias)) (q .B) = rw e (rw k at (t .bias above)) in
-        subst (λ (l : ℕ). Both false (movedBy (suc (suc n)) q r x (q .B) l)) last (loud velocity freeze (suc n) (q .B) near)
+        subst (λ (l : ℕ). Both false (exactMoved (suc (suc n)) q r x (q .B) l)) last (loud velocity freeze (suc n) (q .B) near)
 
     counted : (entry : Bool) → x .entry ≡ entry → Both false (after false entry (q .n))
     counted true e = entered e
@@ -173,16 +175,16 @@ abbrev inState : State → Plain → Plain
 inState state q = record { state = state; last = q .last; B = q .B; n = q .n; output = q .output }
 
 -- an accepted sample is accurate, and leaves the two tied
-pub sample-good : {r : Reading} {c : Carried} {raw : ℕ} → Usable r raw → Ranged c → (q : Plain) → Tied c q
-    → Good (stepOf r c raw .written .output) (r .settings .limits .low) (r .settings .limits .high) (plainAfter q r raw)
-    × Tied (stepOf r c raw .carried) (plainAfter q r raw)
+pub sample-good : {r : Reading} {c : Carried} {p : ℕ} → Usable r p → Ranged c → (q : Plain) → Tied c q
+    → Good (stepOf r c p .written .output) (r .settings .limits .low) (r .settings .limits .high) (plainAfter q r p)
+    × Tied (stepOf r c p .carried) (plainAfter q r p)
 unfolding stepOf writtenOf drivenOf plainAfter
-sample-good {r} {c} {raw} u g q t =
+sample-good {r} {c} {p} u g q t =
     let s = r .settings in
     let own = inState (c .state) q in
     let tied : Tied c own = record { state = refl; sampled = t .sampled; last = t .last; bias = t .bias } in
-    subst (λ (state : State). let q′ = plainAfter (inState state q) r raw in
-    Good (stepOf r c raw .written .output) (s .limits .low) (s .limits .high) q′ × Tied (stepOf r c raw .carried) q′)
+    subst (λ (state : State). let q′ = plainAfter (inState state q) r p in
+    Good (stepOf r c p .written .output) (s .limits .low) (s .limits .high) q′ × Tied (stepOf r c p .carried) q′)
     (t .state) (by-kind u g own tied (isManual (r .mode)) (s .mode1 .freeze) (s .mode1 .velocity) refl refl refl)
 
 -- ---- the tolerance is within one count for n up to 131,071

@@ -10,8 +10,8 @@ use lib.Dec.{T, eqb, leb, ltb, eqb→eq, leb→le, nleb→lt, ltb→lt, nltb→l
 use borrow.Author.Tests.{eqb-true, eq-eqb, ne-eqb, lt-ltb, le-ltb}
 use Rattle.numbers.specs.Distances.{apart}
 use Rattle.numbers.specs.Limits.Laws.{by-test}
-use Rattle.table.specs.declared.program.Pair.{Pair}
-use Rattle.table.specs.Programs.{pairAt, pairNumber}
+use Rattle.reading.specs.declared.program.Pair.{Pair}
+use Rattle.reading.specs.Programs.{pairAt, pairNumber}
 use Rattle.profile.specs.declared.state.Profile.{Profile}
 use Rattle.profile.specs.declared.state.Moved.{Moved}
 use Rattle.profile.specs.Moves.{completedOf, handedOver, toward, partsOf, rampedTo, rampedBy, soakedBy, movedBy}

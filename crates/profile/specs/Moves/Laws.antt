@@ -7,9 +7,9 @@ use mathlib.Core.Bool.{Bool, true, false, not, _||_}
 use lib.Dec.{ltb, leb, eqb, ltb→lt, nleb→lt}
 use borrow.Author.Tests.{eqb-true}
 use Rattle.numbers.specs.Limits.Laws.{by-test}
-use Rattle.table.specs.declared.program.Program.{Program}
+use Rattle.reading.specs.declared.program.Program.{Program}
 use Rattle.table.specs.Words.Laws.{and-true}
-use Rattle.table.specs.Programs.{pairNumber}
+use Rattle.reading.specs.Programs.{pairNumber}
 use Rattle.profile.specs.declared.state.Profile.{Profile}
 use Rattle.profile.specs.declared.state.Moved.{Moved}
 use Rattle.profile.specs.declared.moves.Command.{Command}

@@ -5,24 +5,6 @@ use Rattle.reader.specs.File.{recordAt}
 use Rattle.reader.proofs.read_record.Statement.{statement}
 use Rattle.reader.proofs.read_record.Tie as tie
 
-bytes-left-requires : tie.Need-bytes-left-requires
-bytes-left-requires c κs = search needs
-
-word-requires : tie.Need-word-requires
-word-requires c κs = search needs
-
-cast-n : tie.Need-cast-n
-cast-n c = search needs
-
-add-behind : tie.Need-add-behind
-add-behind c = search needs
-
-whole-requires : tie.Need-whole-requires
-whole-requires c κs = search needs
-
-add-t11 : tie.Need-add-t11
-add-t11 c = search needs
-
 returns : tie.Need-returns
 unfolding recordAt
 returns c =
@@ -47,12 +29,12 @@ pub read-record-spec : {M : Type 1} → statement M
 read-record-spec =
     tie.close
     (tie.spec
-    bytes-left-requires
-    word-requires
-    cast-n
-    add-behind
-    whole-requires
-    add-t11
+    (λ c κs. search needs)
+    (λ c κs. search needs)
+    (λ c. search needs)
+    (λ c. search needs)
+    (λ c κs. search needs)
+    (λ c. search needs)
     returns
     returns-2
     returns-3)

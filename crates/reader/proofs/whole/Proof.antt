@@ -7,15 +7,6 @@ use Rattle.reader.proofs.whole.Tie as tie
 returns : tie.Need-returns
 returns c = simp (lt-ltb _ _ (c .if1 .taken))
 
-word-requires : tie.Need-word-requires
-word-requires c κs = search needs
-
-store-requires : tie.Need-store-requires
-store-requires c κs = search needs
-
-sample-requires : tie.Need-sample-requires
-sample-requires c κs = search needs
-
 returns-2 : tie.Need-returns-2
 returns-2 c = simp (← c .before .before .before .word .ensures, c .before .before .match .keys1, c .before .if2 .taken, c .store .ensures)
 
@@ -43,9 +34,9 @@ whole-spec =
     tie.close
     (tie.spec
     returns
-    word-requires
-    store-requires
-    sample-requires
+    (λ c κs. search needs)
+    (λ c κs. search needs)
+    (λ c κs. search needs)
     returns-2
     returns-3
     returns-4

@@ -18,12 +18,6 @@ abbrev μ-loop : tie.MeasureT-loop
 loop-holds : tie.Need-loop-holds Inv-loop μ-loop
 loop-holds c = (omega arith, omega arith, omega arith)
 
-mul-handed-on : tie.Need-mul-handed-on Inv-loop μ-loop
-mul-handed-on c = omega arith
-
-shared-slice-read-handed-on : tie.Need-shared-slice-read-handed-on Inv-loop μ-loop
-shared-slice-read-handed-on c = omega arith
-
 handed-on-requires : tie.Need-handed-on-requires Inv-loop μ-loop
 handed-on-requires c κs = tt
 
@@ -31,12 +25,6 @@ add-n : tie.Need-add-n Inv-loop μ-loop
 add-n c =
     let l = c .before .before .before .before in
     omega (arith, l .loop .inv .1, l .before .before .pre)
-
-add-i : tie.Need-add-i Inv-loop μ-loop
-add-i c = omega arith
-
-loop-less : tie.Need-loop-less Inv-loop μ-loop
-loop-less c = omega arith
 
 -- a turn adds the bytes of its word
 added : (c : tie.Joined1 Inv-loop μ-loop) → let l = c .before .before .before .before in
@@ -67,11 +55,11 @@ file-length-spec =
     Inv-loop
     μ-loop
     loop-holds
-    mul-handed-on
-    shared-slice-read-handed-on
+    (λ c. omega arith)
+    (λ c. omega arith)
     handed-on-requires
     add-n
-    add-i
-    loop-less
+    (λ c. omega arith)
+    (λ c. omega arith)
     loop-again
     returns)

@@ -7,11 +7,8 @@ use Rattle.setups.proofs.handed_on.Tie as tie
 returns : tie.Need-returns
 returns c = rw (c .if1 .taken)
 
-engine-word-requires : tie.Need-engine-word-requires
-engine-word-requires c κs = search needs
-
 returns-2 : tie.Need-returns-2
 returns-2 c = rw (c .engine-word .ensures, ne-eqb (c .before .before .args .value) 0 (c .before .if1 .left))
 
 pub handed-on-spec : {M : Type 1} → statement M
-handed-on-spec = tie.close (tie.spec returns engine-word-requires returns-2)
+handed-on-spec = tie.close (tie.spec returns (λ c κs. search needs) returns-2)

@@ -21,12 +21,6 @@ abbrev μ-loop : tie.MeasureT-loop
 loop-holds : tie.Need-loop-holds Inv-loop μ-loop
 loop-holds c = (omega arith, refl, omega arith, refl)
 
-mul-put-bytes : tie.Need-mul-put-bytes Inv-loop μ-loop
-mul-put-bytes c = omega arith
-
-shared-slice-read-put-bytes : tie.Need-shared-slice-read-put-bytes Inv-loop μ-loop
-shared-slice-read-put-bytes c = omega arith
-
 put-bytes-requires : tie.Need-put-bytes-requires Inv-loop μ-loop
 put-bytes-requires c κs =
     let l = c .before .before .before .loop in
@@ -34,12 +28,6 @@ put-bytes-requires c κs =
     let words = start .args .words .now in
     let on : l .i < length words = omega arith in
     (omega arith, omega (arith, length-step words (l .i) on, l .inv .2, start .pre))
-
-add-i : tie.Need-add-i Inv-loop μ-loop
-add-i c = omega arith
-
-loop-less : tie.Need-loop-less Inv-loop μ-loop
-loop-less c = omega arith
 
 loop-again : tie.Need-loop-again Inv-loop μ-loop
 loop-again c =
@@ -53,9 +41,6 @@ loop-again c =
     let e = put .ensures in
     let joined = sets-append (l .out) (l .place) own rest ∙ rw (bytes-step words (l .i) on) at (l .inv .3) in
     (omega arith, put .kept .0 ∙ l .inv .1, omega (arith, e .place, length-step words (l .i) on, l .inv .2), rw (e .buffer, e .place) joined)
-
-same-length : tie.Need-same-length Inv-loop μ-loop
-same-length c = omega arith
 
 returns : tie.Need-returns Inv-loop μ-loop
 returns c =
@@ -72,11 +57,11 @@ put-file-spec =
     Inv-loop
     μ-loop
     loop-holds
-    mul-put-bytes
-    shared-slice-read-put-bytes
+    (λ c. omega arith)
+    (λ c. omega arith)
     put-bytes-requires
-    add-i
-    loop-less
+    (λ c. omega arith)
+    (λ c. omega arith)
     loop-again
-    same-length
+    (λ c. omega arith)
     returns)

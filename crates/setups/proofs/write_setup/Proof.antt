@@ -22,9 +22,6 @@ returns c =
     let e : firstOf (setupCases words (length out)) ≡ Refused Memory = rw (ne-eqb (length words) 1024 (c .if1 .taken)) in
     promised (setupOf words) out e
 
-file-length-requires : tie.Need-file-length-requires
-file-length-requires c κs = search needs
-
 returns-2 : tie.Need-returns-2
 unfolding setupAnswer setupLeft
 returns-2 c =
@@ -37,9 +34,6 @@ returns-2 c =
 
 put-file-requires : tie.Need-put-file-requires
 put-file-requires c κs = let test = c .before in (test .before .before .if1 .left, omega (arith, test .if2 .left, test .before .file-length .ensures))
-
-same-length : tie.Need-same-length
-same-length c = search needs
 
 returns-3 : tie.Need-returns-3
 unfolding setupAnswer setupLeft
@@ -58,4 +52,4 @@ returns-3 c =
 pub write-setup-spec : {M : Type 1} → statement M
 write-setup-spec =
     tie.close
-    (tie.spec returns file-length-requires returns-2 put-file-requires same-length returns-3)
+    (tie.spec returns (λ c κs. search needs) returns-2 put-file-requires (λ c. search needs) returns-3)

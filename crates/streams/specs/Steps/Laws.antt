@@ -8,7 +8,7 @@ use lib.IntN.{ℤ, pos, negsuc}
 use Rattle.libc.specs.Io.{Moved as Answered}
 use Rattle.streams.specs.declared.steps.Step.{Step}
 use Rattle.streams.specs.declared.steps.Step.the-variants.{Moved, Interrupted, Failed}
-use Rattle.streams.specs.Steps.{stepOf, failedWith, Within}
+use Rattle.streams.specs.Steps.{outcomeOf, failedWith, Within}
 
 module _ (room : ℕ) where
   either : (b : Bool) → Within room (cond b Interrupted Failed)
@@ -21,8 +21,8 @@ module _ (room : ℕ) where
   moves-none (pos n) = either (eqb n 4)
   moves-none (negsuc n) = tt
 
-  pub within : (moved error : ℤ) → Answered room moved → Within room (stepOf moved error)
-  unfolding stepOf Within
+  pub within : (moved error : ℤ) → Answered room moved → Within room (outcomeOf moved error)
+  unfolding outcomeOf Within
   within (pos zero) error h = tt
   within (pos (suc n)) error h = (omega arith, h)
   within (negsuc n) error h = moves-none error

@@ -15,14 +15,8 @@ Inv-loop n rest₀ width₀ rest width = width + length (decimalOf rest) ≡ len
 abbrev μ-loop : tie.MeasureT-loop
 μ-loop n rest₀ width₀ rest width = rest
 
-loop-holds : tie.Need-loop-holds Inv-loop μ-loop
-loop-holds c = omega arith
-
 add-width : tie.Need-add-width Inv-loop μ-loop
 add-width c = omega (arith, decimal-length 19 (c .before .before .args .n) (omega arith), decimal-some (c .before .loop .rest))
-
-loop-less : tie.Need-loop-less Inv-loop μ-loop
-loop-less c = omega arith
 
 loop-again : tie.Need-loop-again Inv-loop μ-loop
 loop-again c = omega (arith, simp length-append at (ap length (decimal-more (c .before .loop .rest) (c .loop-test .taken))))
@@ -32,4 +26,4 @@ returns c = omega (arith, ap length (decimal-one (c .before .loop .rest) (c .loo
 
 pub decimal-width-spec : {M : Type 1} → statement M
 decimal-width-spec =
-    tie.close (tie.spec Inv-loop μ-loop loop-holds add-width loop-less loop-again returns)
+    tie.close (tie.spec Inv-loop μ-loop (λ c. omega arith) add-width (λ c. omega arith) loop-again returns)

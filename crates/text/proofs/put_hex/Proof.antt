@@ -6,44 +6,14 @@ use borrow.Author.Needs.{needs}
 use Rattle.text.proofs.put_hex.Statement.{statement}
 use Rattle.text.proofs.put_hex.Tie as tie
 
-hex-digit-requires : tie.Need-hex-digit-requires
-hex-digit-requires c κs = search needs
-
-slice-write-out : tie.Need-slice-write-out
-slice-write-out c = search needs
-
-hex-digit-requires-2 : tie.Need-hex-digit-requires-2
-hex-digit-requires-2 c κs = search needs
-
-add-out : tie.Need-add-out
-add-out c = search needs
-
 slice-write-out-2 : tie.Need-slice-write-out-2
 slice-write-out-2 c = simp length-set (omega arith)
-
-hex-digit-requires-3 : tie.Need-hex-digit-requires-3
-hex-digit-requires-3 c κs = search needs
-
-add-out-2 : tie.Need-add-out-2
-add-out-2 c = search needs
 
 slice-write-out-3 : tie.Need-slice-write-out-3
 slice-write-out-3 c = simp length-set (omega arith)
 
-hex-digit-requires-4 : tie.Need-hex-digit-requires-4
-hex-digit-requires-4 c κs = search needs
-
-add-out-3 : tie.Need-add-out-3
-add-out-3 c = search needs
-
 slice-write-out-4 : tie.Need-slice-write-out-4
 slice-write-out-4 c = simp length-set (omega arith)
-
-add-result : tie.Need-add-result
-add-result c = search needs
-
-same-length : tie.Need-same-length
-same-length c = search needs
 
 returns : tie.Need-returns
 returns c =
@@ -60,17 +30,17 @@ pub put-hex-spec : {M : Type 1} → statement M
 put-hex-spec =
     tie.close
     (tie.spec
-    hex-digit-requires
-    slice-write-out
-    hex-digit-requires-2
-    add-out
+    (λ c κs. search needs)
+    (λ c. search needs)
+    (λ c κs. search needs)
+    (λ c. search needs)
     slice-write-out-2
-    hex-digit-requires-3
-    add-out-2
+    (λ c κs. search needs)
+    (λ c. search needs)
     slice-write-out-3
-    hex-digit-requires-4
-    add-out-3
+    (λ c κs. search needs)
+    (λ c. search needs)
     slice-write-out-4
-    add-result
-    same-length
+    (λ c. search needs)
+    (λ c. search needs)
     returns)

@@ -1,8 +1,8 @@
 -- The laws of texts that proofs here and above cite in place of the definitions.
 use Prim.Native.Nat.{ℕ, zero, suc, _+_, _*_, _/_, _%_, _^_, _≤_, _<_}
-use mathlib.Core.Path.{_≡_, refl, sym, _∙_}
+use mathlib.Core.Path.{_≡_, refl, sym, ap, _∙_}
 use mathlib.Core.Bool.{Bool, true, false}
-use mathlib.Core.List.{List, [], _∷_, _++_}
+use mathlib.Core.List.{List, [], _∷_, _++_, append-assoc}
 use native.Mathlib.Nat.{add-zero, add-suc, suc-add, pow-suc, div-div-eq-div-mul}
 use native.Mathlib.Numerals.{add-one, add-two, add-three}
 use native.Mathlib.Omega.{arith}
@@ -10,7 +10,7 @@ use lib.ListN.{length, getD, set, take, length-append}
 use lib.Seq.{sets, sets-eq, take-at, set-comm}
 use lib.Dec.{ltb}
 use borrow.Author.Tests.{lt-ltb, le-ltb, ltb-true, ltb-false}
-use Rattle.text.specs.Text.{Written, lastDigit, digitsWithin, decimalOf, readFrom, readDecimal, hexDigit, hexOf, hexValue, readHex}
+use Rattle.text.specs.Text.{Written, lastDigit, digitsWithin, decimalOf, twoDigits, readFrom, readDecimal, hexDigit, hexOf, hexValue, readHex}
 
 -- two texts in a row are their join
 pub sets-append : (l : List ℕ) (i : ℕ) (a b : List ℕ) → sets (sets l i a) (i + length a) b ≡ sets l i (a ++ b)
@@ -79,6 +79,29 @@ decimal-one n h = sym (digits-limit n (suc n) (omega arith)) ∙ rw (lt-ltb n 10
 pub decimal-more : (n : ℕ) → 10 ≤ n → decimalOf n ≡ decimalOf (n / 10) ++ (lastDigit n ∷ [])
 unfolding digitsWithin
 decimal-more n h = sym (digits-limit n (suc n) (omega arith)) ∙ rw (le-ltb n 10 h, digits-limit (n / 10) n (omega arith))
+
+-- the digits of a number of two
+pub decimal-two : (n : ℕ) → 10 ≤ n → n < 100 → decimalOf n ≡ twoDigits n
+decimal-two n h k =
+    let e : n / 10 % 10 ≡ n / 10 = omega arith in
+    decimal-more n h ∙ rw (decimal-one (n / 10) (omega arith), e)
+
+-- the last two digits behind those of n / 100
+pub decimal-behind : (n : ℕ) → 100 ≤ n → decimalOf n ≡ decimalOf (n / 100) ++ twoDigits (n % 100)
+decimal-behind n h =
+    let e : n / 10 / 10 ≡ n / 100 = omega arith in
+    let tens : n / 10 % 10 ≡ n % 100 / 10 = omega arith in
+    let ones : n % 10 ≡ n % 100 % 10 = omega arith in
+    decimal-more n (omega arith)
+    ∙ rw (decimal-more (n / 10) (omega arith), e, tens, ones) (append-assoc (decimalOf (n / 100)) _ _)
+
+-- so the last two are written behind the others
+pub width-behind : (n : ℕ) → 100 ≤ n → length (decimalOf n) ≡ length (decimalOf (n / 100)) + 2
+width-behind n h = simp length-append at (ap length (decimal-behind n h))
+
+pub written-behind : {l m r : List ℕ} {i j k : ℕ} (n : ℕ) → 100 ≤ n → Written l i (decimalOf (n / 100)) m j
+    → Written m j (twoDigits (n % 100)) r k → Written l i (decimalOf n) r k
+written-behind n h p q = rw (decimal-behind n h) (written-append p q)
 
 -- a number below 10 ^ suc k has at most suc k digits
 pub decimal-length : (k n : ℕ) → n < 10 ^ suc k → length (decimalOf n) ≤ suc k

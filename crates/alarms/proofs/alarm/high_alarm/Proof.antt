@@ -4,14 +4,8 @@ use Rattle.alarms.specs.Status.Laws.{held}
 use Rattle.alarms.proofs.alarm.high_alarm.Statement.{statement}
 use Rattle.alarms.proofs.alarm.high_alarm.Tie as tie
 
-margin-requires : tie.Need-margin-requires
-margin-requires c κs = search needs
-
-add-result : tie.Need-add-result
-add-result c = search needs
-
 returns : tie.Need-returns
 returns c = rw (c .margin .ensures .value, held)
 
 pub high-alarm-spec : {M : Type 1} → statement M
-high-alarm-spec = tie.close (tie.spec margin-requires add-result returns)
+high-alarm-spec = tie.close (tie.spec (λ c κs. search needs) (λ c. search needs) returns)

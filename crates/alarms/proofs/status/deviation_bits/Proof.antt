@@ -4,24 +4,6 @@ use native.Mathlib.Omega.{arith}
 use Rattle.alarms.proofs.status.deviation_bits.Statement.{statement}
 use Rattle.alarms.proofs.status.deviation_bits.Tie as tie
 
-distance-requires : tie.Need-distance-requires
-distance-requires c κs = search needs
-
-high-alarm-requires : tie.Need-high-alarm-requires
-high-alarm-requires c κs = search needs
-
-high-alarm-requires-2 : tie.Need-high-alarm-requires-2
-high-alarm-requires-2 c κs = search needs
-
-flag-requires : tie.Need-flag-requires
-flag-requires c κs = search needs
-
-flag-requires-2 : tie.Need-flag-requires-2
-flag-requires-2 c κs = search needs
-
-add-result : tie.Need-add-result
-add-result c = search needs
-
 returns : tie.Need-returns
 returns c =
     let alarms = c .before .before in
@@ -37,18 +19,15 @@ returns c =
       small = omega arith;
     }
 
-returns-2 : tie.Need-returns-2
-returns-2 c = search needs
-
 pub deviation-bits-spec : {M : Type 1} → statement M
 deviation-bits-spec =
     tie.close
     (tie.spec
-    distance-requires
-    high-alarm-requires
-    high-alarm-requires-2
-    flag-requires
-    flag-requires-2
-    add-result
+    (λ c κs. search needs)
+    (λ c κs. search needs)
+    (λ c κs. search needs)
+    (λ c κs. search needs)
+    (λ c κs. search needs)
+    (λ c. search needs)
     returns
-    returns-2)
+    (λ c. search needs))

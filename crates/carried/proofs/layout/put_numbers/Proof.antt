@@ -23,27 +23,6 @@ abbrev μ-loop : tie.MeasureT-loop
 loop-holds : tie.Need-loop-holds Inv-loop μ-loop
 loop-holds c = (omega arith, refl, rw add-zero)
 
-mul-n : tie.Need-mul-n Inv-loop μ-loop
-mul-n c = omega arith
-
-array-copy-out-n : tie.Need-array-copy-out-n Inv-loop μ-loop
-array-copy-out-n c = omega arith
-
-add-n : tie.Need-add-n Inv-loop μ-loop
-add-n c = omega arith
-
-mul-n-2 : tie.Need-mul-n-2 Inv-loop μ-loop
-mul-n-2 c = omega arith
-
-slice-set-from-n : tie.Need-slice-set-from-n Inv-loop μ-loop
-slice-set-from-n c = omega arith
-
-add-i : tie.Need-add-i Inv-loop μ-loop
-add-i c = omega arith
-
-loop-less : tie.Need-loop-less Inv-loop μ-loop
-loop-less c = omega arith
-
 loop-again : tie.Need-loop-again Inv-loop μ-loop
 loop-again c =
     let l = c .before .before .loop in
@@ -53,9 +32,6 @@ loop-again c =
       simp length-set (omega arith),
       rw (toZ-ofZ {w = w64} {z = getD (a .t3) (l .i) (pos 0)} (search needs), add-one, add-suc) (rw (drop-cons (a .t3) (l .i) (pos 0) h) at (l .inv .2)),
     )
-
-same-length : tie.Need-same-length Inv-loop μ-loop
-same-length c = omega arith
 
 returns : tie.Need-returns Inv-loop μ-loop
 returns c = let l = c .before .loop in rw (drop-of-length-le (c .before .before .args .t3) {i = l .i} (omega arith)) at (l .inv .2)
@@ -67,13 +43,13 @@ put-numbers-spec =
     Inv-loop
     μ-loop
     loop-holds
-    mul-n
-    array-copy-out-n
-    add-n
-    mul-n-2
-    slice-set-from-n
-    add-i
-    loop-less
+    (λ c. search needs)
+    (λ c. search needs)
+    (λ c. search needs)
+    (λ c. search needs)
+    (λ c. search needs)
+    (λ c. search needs)
+    (λ c. search needs)
     loop-again
-    same-length
+    (λ c. search needs)
     returns)

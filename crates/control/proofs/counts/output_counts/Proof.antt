@@ -4,9 +4,6 @@ use Rattle.control.specs.Counts.{outputCounts}
 use Rattle.control.proofs.counts.output_counts.Statement.{statement}
 use Rattle.control.proofs.counts.output_counts.Tie as tie
 
-convert-requires : tie.Need-convert-requires
-convert-requires c κs = search needs
-
 returns : tie.Need-returns
 unfolding outputCounts
 returns c = rw (c .convert .ensures, c .before .if1 .taken)
@@ -16,4 +13,4 @@ unfolding outputCounts
 returns-2 c = rw (c .if1 .left)
 
 pub output-counts-spec : {M : Type 1} → statement M
-output-counts-spec = tie.close (tie.spec convert-requires returns returns-2)
+output-counts-spec = tie.close (tie.spec (λ c κs. search needs) returns returns-2)

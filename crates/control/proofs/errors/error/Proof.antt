@@ -12,9 +12,6 @@ use Rattle.control.specs.Errors.{errorOf}
 use Rattle.control.proofs.errors.error.Statement.{statement}
 use Rattle.control.proofs.errors.error.Tie as tie
 
-difference-requires : tie.Need-difference-requires
-difference-requires c κs = search needs
-
 -- the difference as the machine reads it back
 module _ (c : tie.After-difference) where
   abbrev apart : ℤ
@@ -45,4 +42,4 @@ unfolding errorOf
 returns-3 c = let m = c .before in simp (m .before .if1 .left, c .if2 .left) (exact m)
 
 pub error-spec : {M : Type 1} → statement M
-error-spec = tie.close (tie.spec returns difference-requires squared-over-requires returns-2 returns-3)
+error-spec = tie.close (tie.spec returns (λ c κs. search needs) squared-over-requires returns-2 returns-3)

@@ -4,12 +4,9 @@ use Rattle.control.specs.Errors.{inDeadband}
 use Rattle.control.proofs.errors.in_deadband.Statement.{statement}
 use Rattle.control.proofs.errors.in_deadband.Tie as tie
 
-distance-requires : tie.Need-distance-requires
-distance-requires c κs = search needs
-
 returns : tie.Need-returns
 unfolding inDeadband
 returns c = simp (c .distance .ensures)
 
 pub in-deadband-spec : {M : Type 1} → statement M
-in-deadband-spec = tie.close (tie.spec distance-requires returns)
+in-deadband-spec = tie.close (tie.spec (λ c κs. search needs) returns)

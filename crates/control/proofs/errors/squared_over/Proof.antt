@@ -10,9 +10,6 @@ use Rattle.control.specs.Errors.{squaredOver}
 use Rattle.control.proofs.errors.squared_over.Statement.{statement}
 use Rattle.control.proofs.errors.squared_over.Tie as tie
 
-magnitude-requires : tie.Need-magnitude-requires
-magnitude-requires c κs = search needs
-
 module _ (c : tie.After-magnitude) where
   size : c .magnitude .result ≡ natAbs (c .before .args .e)
   size = cc (back (c .before .fits .e))
@@ -22,9 +19,6 @@ module _ (c : tie.After-magnitude) where
 
 mul-with-sign : tie.Need-mul-with-sign
 mul-with-sign c = omega (arith, square c)
-
-div-with-sign : tie.Need-div-with-sign
-div-with-sign c = search needs
 
 with-sign-requires : tie.Need-with-sign-requires
 with-sign-requires c κs =
@@ -38,4 +32,4 @@ returns c =
     cc (got (c .with-sign .result) (c .with-sign .ok), back (s .fits .e), size (c .before))
 
 pub squared-over-spec : {M : Type 1} → statement M
-squared-over-spec = tie.close (tie.spec magnitude-requires mul-with-sign div-with-sign with-sign-requires returns)
+squared-over-spec = tie.close (tie.spec (λ c κs. search needs) mul-with-sign (λ c. search needs) with-sign-requires returns)

@@ -42,9 +42,6 @@ start c = c .before .before .before .before .before .before .before .before
 sub-clamp : tie.Need-sub-clamp
 sub-clamp c = let h = sums (start c) in search needs
 
-clamp-requires : tie.Need-clamp-requires
-clamp-requires c κs = search needs
-
 returns : tie.Need-returns
 unfolding velocityOf
 returns c =
@@ -54,4 +51,4 @@ returns c =
     rw (← e) (search needs)
 
 pub velocity-spec : {M : Type 1} → statement M
-velocity-spec = tie.close (tie.spec add-clamp add-clamp-2 sub-clamp clamp-requires returns)
+velocity-spec = tie.close (tie.spec add-clamp add-clamp-2 sub-clamp (λ c κs. search needs) returns)

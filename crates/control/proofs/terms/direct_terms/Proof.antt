@@ -10,12 +10,6 @@ use Rattle.control.specs.Terms.Laws.{factor-high, terms-same}
 use Rattle.control.proofs.terms.direct_terms.Statement.{statement}
 use Rattle.control.proofs.terms.direct_terms.Tie as tie
 
-factor-requires : tie.Need-factor-requires
-factor-requires c κs = search needs
-
-proportional-requires : tie.Need-proportional-requires
-proportional-requires c κs = search needs
-
 most : (c : tie.After-factor) → c .factor .result ≤ 9999
 most c = omega (arith, c .factor .ensures, factor-high (c .before .pre .0 .gain))
 
@@ -48,4 +42,4 @@ returns c =
 pub direct-terms-spec : {M : Type 1} → statement M
 direct-terms-spec =
     tie.close
-    (tie.spec factor-requires proportional-requires integral-requires derivative-requires returns)
+    (tie.spec (λ c κs. search needs) (λ c κs. search needs) integral-requires derivative-requires returns)

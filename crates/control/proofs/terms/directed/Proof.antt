@@ -36,8 +36,5 @@ returns c =
     let h = fits (reversed c) in
     simp (reversed c .if1 .taken) (_∙_ {b = turned (reversed c)} (search needs) (simp +ℤ-idl))
 
-returns-2 : tie.Need-returns-2
-returns-2 c = search needs
-
 pub directed-spec : {M : Type 1} → statement M
-directed-spec = tie.close (tie.spec sub-t5 sub-t6 sub-t7 returns returns-2)
+directed-spec = tie.close (tie.spec sub-t5 sub-t6 sub-t7 returns (λ c. search needs))

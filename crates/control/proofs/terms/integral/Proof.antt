@@ -22,14 +22,8 @@ product s = settings-high (search needs) (search needs)
 mul-k : tie.Need-mul-k
 mul-k c = omega (arith, product (c .before))
 
-mul-term : tie.Need-mul-term
-mul-term c = search needs
-
 term-requires : tie.Need-term-requires
 term-requires c κs = let h = product (c .before .before) in search needs
-
-mul-term-2 : tie.Need-mul-term-2
-mul-term-2 c = search needs
 
 term-requires-2 : tie.Need-term-requires-2
 term-requires-2 c κs = let h = product (c .before .before) in search needs
@@ -50,4 +44,4 @@ returns-3 c =
 
 pub integral-spec : {M : Type 1} → statement M
 integral-spec =
-    tie.close (tie.spec returns mul-k mul-term term-requires mul-term-2 term-requires-2 returns-2 returns-3)
+    tie.close (tie.spec returns mul-k (λ c. search needs) term-requires (λ c. search needs) term-requires-2 returns-2 returns-3)

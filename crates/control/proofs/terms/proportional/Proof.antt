@@ -6,12 +6,9 @@ use Rattle.control.specs.Terms.{exactP}
 use Rattle.control.proofs.terms.proportional.Statement.{statement}
 use Rattle.control.proofs.terms.proportional.Tie as tie
 
-term-requires : tie.Need-term-requires
-term-requires c κs = search needs
-
 returns : tie.Need-returns
 unfolding exactP
 returns c = via (c .term .result) (search needs) (c .term .ensures ∙ (search needs))
 
 pub proportional-spec : {M : Type 1} → statement M
-proportional-spec = tie.close (tie.spec term-requires returns)
+proportional-spec = tie.close (tie.spec (λ c κs. search needs) returns)

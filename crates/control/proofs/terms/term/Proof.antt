@@ -9,9 +9,6 @@ use Rattle.control.specs.Terms.Laws.{term-is}
 use Rattle.control.proofs.terms.term.Statement.{statement}
 use Rattle.control.proofs.terms.term.Tie as tie
 
-mul-scaled : tie.Need-mul-scaled
-mul-scaled c = search needs
-
 scaled-requires : tie.Need-scaled-requires
 scaled-requires c κs =
     let a = c .args in
@@ -25,4 +22,4 @@ returns c =
     (c .scaled .ensures ∙ ((search needs) ∙ sym (term-is (a .k) (a .e) {d = a .d} (search needs))))
 
 pub term-spec : {M : Type 1} → statement M
-term-spec = tie.close (tie.spec mul-scaled scaled-requires returns)
+term-spec = tie.close (tie.spec (λ c. search needs) scaled-requires returns)

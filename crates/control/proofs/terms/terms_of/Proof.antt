@@ -6,9 +6,6 @@ use Rattle.control.specs.Terms.Laws.{terms-high, terms-directed}
 use Rattle.control.proofs.terms.terms_of.Statement.{statement}
 use Rattle.control.proofs.terms.terms_of.Tie as tie
 
-direct-terms-requires : tie.Need-direct-terms-requires
-direct-terms-requires c κs = search needs
-
 directed-requires : tie.Need-directed-requires
 directed-requires c κs =
     let s = c .before in
@@ -20,4 +17,4 @@ returns c =
     c .directed .ensures ∙ rw (c .before .direct-terms .ensures) (terms-directed (a .tuning) (a .minutes) (a .reverse) (a .inputs))
 
 pub terms-of-spec : {M : Type 1} → statement M
-terms-of-spec = tie.close (tie.spec direct-terms-requires directed-requires returns)
+terms-of-spec = tie.close (tie.spec (λ c κs. search needs) directed-requires returns)

@@ -17,15 +17,6 @@ abbrev μ-loop : tie.MeasureT-loop
 loop-holds : tie.Need-loop-holds Inv-loop μ-loop
 loop-holds c = record { here = omega arith; same = refl; front = refl }
 
-mul-numbers : tie.Need-mul-numbers Inv-loop μ-loop
-mul-numbers c = omega arith
-
-slice-set-of-numbers : tie.Need-slice-set-of-numbers Inv-loop μ-loop
-slice-set-of-numbers c = omega arith
-
-add-i : tie.Need-add-i Inv-loop μ-loop
-add-i c = omega arith
-
 loop-less : tie.Need-loop-less Inv-loop μ-loop
 loop-less c = simp length-set (omega arith)
 
@@ -45,9 +36,9 @@ clear-numbers-spec =
     Inv-loop
     μ-loop
     loop-holds
-    mul-numbers
-    slice-set-of-numbers
-    add-i
+    (λ c. omega arith)
+    (λ c. omega arith)
+    (λ c. omega arith)
     loop-less
     loop-again
     same-length

@@ -1,76 +1,80 @@
--- `desk::sample` meets its contract, by what was found of the loop: a refusal, or its record, and then the reading decides.
+-- `desk::sample` meets its contract, by its admission: a refusal, or what is stepped and written back.
 use native.Mathlib.Omega.{arith}
-use mathlib.Core.Path.{sym, _∙_}
+use Prim.Native.Nat.{ℕ}
+use mathlib.Core.Path.{_≡_, sym, ap, _∙_}
 use denote.Ref.{now}
-use Rattle.desk.specs.Desk.{lent, sampleLeft}
-use Rattle.desk.specs.Desk.Laws.{There, promised, found-refused, found-loop}
+use Rattle.refusals.specs.declared.Answer.the-variants.{Accepted}
+use Rattle.engine.specs.Steps.{stepOf}
+use Rattle.desk.specs.declared.admitting.Admitted.{Admitted}
+use Rattle.desk.specs.Desk.{Desk, lent, readingAt, sampleAnswer, admittedAt, stepAt}
+use Rattle.desk.specs.Desk.Laws.{admission-refused, admission-sample, Sampled, sampled, shown-refused, shown-done, major-few}
 use borrow.Author.Needs.{needs}
 use Rattle.desk.proofs.sampling.sample.Statement.{statement}
 use Rattle.desk.proofs.sampling.sample.Tie as tie
 
-find-loop-requires : tie.Need-find-loop-requires
-find-loop-requires c κs = search needs
+-- the arm with what was admitted
+module _ (c : tie.After-admission2) where
+  abbrev start : tie.Start
+  start = c .before .before .before .before .before .before
 
-enum-known-found : tie.Need-enum-known-found
-enum-known-found c = search needs
+  abbrev d : Desk
+  d = lent (now (start .args .words)) (now (start .args .numbers))
 
-enum-known-found-2 : tie.Need-enum-known-found-2
-enum-known-found-2 c = search needs
+  abbrev k : ℕ
+  k = start .args .number
 
--- the arm with a loop
-start : tie.After-found2 → tie.Start
-start c = c .before .before .before .before .before .before
+  abbrev raw : ℕ
+  raw = start .args .raw
 
-there : (c : tie.After-found2) → let a = start c .args in There (lent (now (a .words)) (now (a .numbers))) (a .number) (c .found2 .given .0 .0)
-unfolding start
-there c = let a = start c .args in found-loop (lent (now (a .words)) (now (a .numbers))) (a .number) (sym (c .before .before .find-loop .ensures) ∙ c .found2 .given .1)
+  accepted : (sampleAnswer d k raw ≡ Accepted) × (c .admission2 .given .0 .0 ≡ admittedAt d k raw)
+  accepted = admission-sample d k raw (sym (c .before .before .admit .ensures) ∙ c .admission2 .given .1)
 
-cast-carry-out : tie.Need-cast-carry-out
-unfolding start
-cast-carry-out c = omega (arith, there (c .before .before .before) .below)
+  known : Sampled d k raw
+  known = sampled d k raw (accepted .0)
 
-carry-out-requires : tie.Need-carry-out-requires
-unfolding start
-carry-out-requires c κs =
-    let t = there (c .before .before .before) in
-    ((t .memory .words, t .memory .numbers, t .below), (t .record′, t .range))
+  reading : c .admission2 .given .0 .0 .reading ≡ readingAt d k
+  reading = ap (λ (a : Admitted). a .reading) (accepted .1)
 
-same-length : tie.Need-same-length
-same-length c = search needs
+step-requires : tie.Need-step-requires
+step-requires c κs = let a = c .before .before .before in rw (accepted a .1) (known a .reading, known a .carried)
 
-same-length-2 : tie.Need-same-length-2
-same-length-2 c = search needs
+stepped : (c : tie.After-step) → let a = c .before .before .before .before in c .step .result ≡ stepAt (d a) (k a) (raw a)
+stepped c = c .step .ensures ∙ ap (λ (a : Admitted). stepOf (a .reading) (a .carried) (a .pv)) (accepted (c .before .before .before .before) .1)
+
+cast-write-back : tie.Need-cast-write-back
+cast-write-back c = omega (arith, known (c .before .before .before .before .before .before .before) .below)
+
+write-back-requires : tie.Need-write-back-requires
+write-back-requires c κs =
+    let a = c .before .before .before .before .before .before .before in
+    let s = known a in
+    (s .memory .words, s .memory .numbers, s .below, rw (reading a) (major-few (d a) (k a)))
 
 returns : tie.Need-returns
-unfolding sampleLeft
 returns c =
-    promised _ _ (found-refused _ _ _ (sym (c .before .before .before .find-loop .ensures) ∙ c .before .found .given .1))
-
-same-length-3 : tie.Need-same-length-3
-same-length-3 c = search needs
-
-same-length-4 : tie.Need-same-length-4
-same-length-4 c = search needs
+    let a = c .before .before .before in
+    shown-refused _ _ _ (admission-refused _ _ _ (sym (a .admit .ensures) ∙ c .before .admission .given .1))
 
 returns-2 : tie.Need-returns-2
-unfolding sampleLeft start
 returns-2 c =
-    let k = c .before .before .before in
-    let f = k .before .before .before .before in
-    rw (there f .judged (start f .args .raw)) (k .carry-out .ensures)
+    let b = c .before .before .before in
+    let s = b .before .before .before .before in
+    let a = s .before .before .before .before in
+    rw (b .write-back .ensures, reading a, stepped s) (shown-done (d a) (k a) (raw a) (accepted a .0))
 
 pub sample-spec : {M : Type 1} → statement M
 sample-spec =
     tie.close
     (tie.spec
-    find-loop-requires
-    enum-known-found
-    enum-known-found-2
-    cast-carry-out
-    carry-out-requires
-    same-length
-    same-length-2
+    (λ c κs. search needs)
+    (λ c. search needs)
+    (λ c. search needs)
+    step-requires
+    cast-write-back
+    write-back-requires
+    (λ c. search needs)
+    (λ c. search needs)
     returns
-    same-length-3
-    same-length-4
+    (λ c. search needs)
+    (λ c. search needs)
     returns-2)

@@ -10,24 +10,9 @@ use borrow.Author.Needs.{needs}
 use Rattle.desk.proofs.storing.store.Statement.{statement}
 use Rattle.desk.proofs.storing.store.Tie as tie
 
-fitting-requires : tie.Need-fitting-requires
-fitting-requires c κs = search needs
-
-same-length : tie.Need-same-length
-same-length c = search needs
-
-same-length-2 : tie.Need-same-length-2
-same-length-2 c = search needs
-
 returns : tie.Need-returns
 unfolding storeAnswer storeLeft
 returns c = promised _ _ (simp (sym (c .before .fitting .ensures) ∙ not-true _ (c .if1 .taken)))
-
-same-length-3 : tie.Need-same-length-3
-same-length-3 c = search needs
-
-same-length-4 : tie.Need-same-length-4
-same-length-4 c = search needs
 
 -- memory of the right lengths
 fit : (c : tie.Else1) → let a = c .before .before .before .before .before .args in fittingOf (lent (now (a .words)) (now (a .numbers))) ≡ true
@@ -37,32 +22,14 @@ returns-2 : tie.Need-returns-2
 unfolding storeAnswer storeLeft
 returns-2 c = promised _ _ (simp (fit (c .before), lt-ltb _ _ (c .if2 .taken)))
 
-engine-word-requires : tie.Need-engine-word-requires
-engine-word-requires c κs = search needs
-
-same-length-5 : tie.Need-same-length-5
-same-length-5 c = search needs
-
-same-length-6 : tie.Need-same-length-6
-same-length-6 c = search needs
-
 returns-3 : tie.Need-returns-3
 unfolding storeAnswer storeLeft
 returns-3 c =
     let e = c .before .before in
     promised _ _ (simp (fit (e .before), le-ltb _ _ (e .if2 .left), sym (c .before .engine-word .ensures) ∙ c .if3 .taken))
 
-mul-words : tie.Need-mul-words
-mul-words c = search needs
-
 slice-write-words : tie.Need-slice-write-words
 slice-write-words c = let e = c .before .before in omega (arith, sound _ (fit (e .before)) .words, e .if2 .left)
-
-same-length-7 : tie.Need-same-length-7
-same-length-7 c = search needs
-
-same-length-8 : tie.Need-same-length-8
-same-length-8 c = search needs
 
 returns-4 : tie.Need-returns-4
 unfolding storeAnswer storeLeft
@@ -74,19 +41,19 @@ pub store-spec : {M : Type 1} → statement M
 store-spec =
     tie.close
     (tie.spec
-    fitting-requires
-    same-length
-    same-length-2
+    (λ c κs. search needs)
+    (λ c. search needs)
+    (λ c. search needs)
     returns
-    same-length-3
-    same-length-4
+    (λ c. search needs)
+    (λ c. search needs)
     returns-2
-    engine-word-requires
-    same-length-5
-    same-length-6
+    (λ c κs. search needs)
+    (λ c. search needs)
+    (λ c. search needs)
     returns-3
-    mul-words
+    (λ c. search needs)
     slice-write-words
-    same-length-7
-    same-length-8
+    (λ c. search needs)
+    (λ c. search needs)
     returns-4)

@@ -4,18 +4,12 @@ use mathlib.Core.Path.{_≡_, _∙_}
 use mathlib.Core.Bool.{Bool, false, not}
 use Prim.Native.Nat.{_≤_}
 use lib.IntN.{ℤ, natAbs}
-use Rattle.table.specs.declared.settings.Mode2.{Mode2}
+use Rattle.reading.specs.declared.settings.Mode2.{Mode2}
 use Rattle.carried.specs.declared.record.Past.{Past}
 use Rattle.engine.specs.Driving.{keptIn, pastOf, movedOf, drivenOf}
 use Rattle.engine.specs.Driving.Laws.{inputs-bounded, ready}
 use Rattle.engine.proofs.driving.driven.Statement.{statement}
 use Rattle.engine.proofs.driving.driven.Tie as tie
-
-started-requires : tie.Need-started-requires
-started-requires c κs = search needs
-
-is-manual-requires : tie.Need-is-manual-requires
-is-manual-requires c κs = search needs
 
 returns : tie.Need-returns
 unfolding drivenOf movedOf
@@ -29,13 +23,13 @@ kept-error m fresh kept p e h off = rw off at h
 inputs-in-requires : tie.Need-inputs-in-requires
 inputs-in-requires c κs =
     let s = c .before .before .before .before .before .before .before .before in
-    let m = s .pre .2 in
-    ((s .pre .0, s .pre .1), (kept-error _ _ _ _ _ (m .recorded), m .error))
+    let m = s .pre .1 in
+    (s .pre .0, (kept-error _ _ _ _ _ (m .recorded), m .error))
 
 moved-in-requires : tie.Need-moved-in-requires
 moved-in-requires c κs =
     let s = c .before .before .before .before .before .before .before .before .before in
-    let m = s .pre .2 in
+    let m = s .pre .1 in
     let v = s .args .reading .settings .mode1 .velocity in
     simp (c .inputs-in .ensures, c .before .before .before .before .before .started .ensures)
     (m .tuned, inputs-bounded m v, ready m _ (inputs-bounded m v))
@@ -48,4 +42,4 @@ returns-2 c =
     ∙ simp (c .before .inputs-in .ensures, e .before .before .started .ensures, ← e .before .is-manual .ensures, e .if1 .left)
 
 pub driven-spec : {M : Type 1} → statement M
-driven-spec = tie.close (tie.spec started-requires is-manual-requires returns inputs-in-requires moved-in-requires returns-2)
+driven-spec = tie.close (tie.spec (λ c κs. search needs) (λ c κs. search needs) returns inputs-in-requires moved-in-requires returns-2)

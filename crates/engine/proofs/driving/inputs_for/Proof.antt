@@ -5,12 +5,6 @@ use Rattle.numbers.proofs.Machine.{back}
 use Rattle.engine.proofs.driving.inputs_for.Statement.{statement}
 use Rattle.engine.proofs.driving.inputs_for.Tie as tie
 
-velocity-inputs-requires : tie.Need-velocity-inputs-requires
-velocity-inputs-requires c κs = search needs
-
-position-inputs-requires : tie.Need-position-inputs-requires
-position-inputs-requires c κs = search needs
-
 returns : tie.Need-returns
 returns c = c .velocity-inputs .ensures ∙ simp (back (c .before .before .fits .e), c .before .if1 .taken)
 
@@ -18,4 +12,4 @@ returns-2 : tie.Need-returns-2
 returns-2 c = c .position-inputs .ensures ∙ simp (back (c .before .before .fits .e), c .before .if1 .left)
 
 pub inputs-for-spec : {M : Type 1} → statement M
-inputs-for-spec = tie.close (tie.spec velocity-inputs-requires position-inputs-requires returns returns-2)
+inputs-for-spec = tie.close (tie.spec (λ c κs. search needs) (λ c κs. search needs) returns returns-2)

@@ -5,7 +5,6 @@ use native.Mathlib.Omega.{arith}
 use mir.Syntax.{w64}
 use mir.Val.{toZ, ofZ}
 use Rattle.numbers.proofs.Machine.{back, small}
-use Rattle.control.specs.Counts.Laws.{counts-same}
 use Rattle.engine.specs.Driving.{keptIn, pastOf}
 use Rattle.engine.specs.Driving.Laws.{kept-same}
 use Rattle.engine.proofs.driving.inputs_in.Statement.{statement}
@@ -23,9 +22,6 @@ unfolding pastOf
 returns c =
     c .inputs-for .ensures
     ∙ simp (c .before .before .before .if1 .taken, error (c .before .before .before .before .before))
-
-kept-in-requires : tie.Need-kept-in-requires
-kept-in-requires c κs = search needs
 
 inputs-for-requires-2 : tie.Need-inputs-for-requires-2
 unfolding keptIn
@@ -50,7 +46,7 @@ returns-3 c =
     let a = e .before .before in
     let off = c .before .before .if2 .left in
     c .inputs-for3 .ensures
-    ∙ simp (e .if1 .left, error a, a .pre .0 .1, counts-same (a .args .s .mode2) off, kept-same (a .args .s .mode2) off)
+    ∙ simp (e .if1 .left, error a, kept-same (a .args .s .mode2) off)
 
 pub inputs-in-spec : {M : Type 1} → statement M
 inputs-in-spec =
@@ -58,7 +54,7 @@ inputs-in-spec =
     (tie.spec
     inputs-for-requires
     returns
-    kept-in-requires
+    (λ c κs. search needs)
     inputs-for-requires-2
     inputs-for-requires-3
     returns-2

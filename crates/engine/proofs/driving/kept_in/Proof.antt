@@ -6,12 +6,6 @@ use Rattle.engine.specs.Driving.{keptIn}
 use Rattle.engine.proofs.driving.kept_in.Statement.{statement}
 use Rattle.engine.proofs.driving.kept_in.Tie as tie
 
-output-counts-requires : tie.Need-output-counts-requires
-output-counts-requires c κs = search needs
-
-output-counts-requires-2 : tie.Need-output-counts-requires-2
-output-counts-requires-2 c κs = search needs
-
 returns : tie.Need-returns
 unfolding keptIn
 returns c =
@@ -19,4 +13,4 @@ returns c =
     simp (c .before .output-counts2 .ensures, c .before .before .output-counts .ensures, toZ-ofZ {w = w64} {z = e} (search needs))
 
 pub kept-in-spec : {M : Type 1} → statement M
-kept-in-spec = tie.close (tie.spec output-counts-requires output-counts-requires-2 returns)
+kept-in-spec = tie.close (tie.spec (λ c κs. search needs) (λ c κs. search needs) returns)

@@ -12,12 +12,6 @@ use Rattle.engine.proofs.driving.moved_in.Tie as tie
 terms-in-requires : tie.Need-terms-in-requires
 terms-in-requires c κs = (c .pre .0, c .pre .1)
 
-units-requires : tie.Need-units-requires
-units-requires c κs = search needs
-
-units-requires-2 : tie.Need-units-requires-2
-units-requires-2 c κs = search needs
-
 -- what the machine reads back of the limits, and what both forms ask
 module _ (c : tie.After-units2) where
   low : toZ w64 (ofZ w64 (c .before .units .result)) ≡ lowUnits (c .before .before .before .args .s)
@@ -49,4 +43,4 @@ returns-2 c =
     c .position .ensures ∙ simp (u .before .before .terms-in .ensures, low u, high u, c .before .if1 .left)
 
 pub moved-in-spec : {M : Type 1} → statement M
-moved-in-spec = tie.close (tie.spec terms-in-requires units-requires units-requires-2 velocity-requires position-requires returns returns-2)
+moved-in-spec = tie.close (tie.spec terms-in-requires (λ c κs. search needs) (λ c κs. search needs) velocity-requires position-requires returns returns-2)

@@ -5,9 +5,6 @@ use Rattle.engine.specs.Driving.{positionInputs}
 use Rattle.engine.proofs.driving.position_inputs.Statement.{statement}
 use Rattle.engine.proofs.driving.position_inputs.Tie as tie
 
-difference-requires : tie.Need-difference-requires
-difference-requires c κs = search needs
-
 returns : tie.Need-returns
 unfolding positionInputs
 returns c =
@@ -15,4 +12,4 @@ returns c =
     simp (got (d .result) (d .ok), back (c .before .fits .e)) (simp (d .ensures))
 
 pub position-inputs-spec : {M : Type 1} → statement M
-position-inputs-spec = tie.close (tie.spec difference-requires returns)
+position-inputs-spec = tie.close (tie.spec (λ c κs. search needs) returns)

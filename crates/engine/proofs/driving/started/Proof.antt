@@ -5,9 +5,6 @@ use Rattle.engine.specs.Driving.{startOf}
 use Rattle.engine.proofs.driving.started.Statement.{statement}
 use Rattle.engine.proofs.driving.started.Tie as tie
 
-units-requires : tie.Need-units-requires
-units-requires c κs = search needs
-
 returns : tie.Need-returns
 unfolding startOf
 returns c = rw (got (c .units .result) (c .units .ok)) (simp (c .units .ensures, c .before .if1 .taken))
@@ -17,4 +14,4 @@ unfolding startOf
 returns-2 c = rw (c .if1 .left)
 
 pub started-spec : {M : Type 1} → statement M
-started-spec = tie.close (tie.spec units-requires returns returns-2)
+started-spec = tie.close (tie.spec (λ c κs. search needs) returns returns-2)

@@ -4,12 +4,9 @@ use Rattle.engine.specs.Driving.{termsIn}
 use Rattle.engine.proofs.driving.terms_in.Statement.{statement}
 use Rattle.engine.proofs.driving.terms_in.Tie as tie
 
-terms-of-requires : tie.Need-terms-of-requires
-terms-of-requires c κs = search needs
-
 returns : tie.Need-returns
 unfolding termsIn
 returns c = c .terms-of .ensures
 
 pub terms-in-spec : {M : Type 1} → statement M
-terms-in-spec = tie.close (tie.spec terms-of-requires returns)
+terms-in-spec = tie.close (tie.spec (λ c κs. search needs) returns)

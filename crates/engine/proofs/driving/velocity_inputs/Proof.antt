@@ -29,12 +29,6 @@ second-difference p last prior =
       sub (pos p) (pos (2 * last)),
     )
 
-difference-requires : tie.Need-difference-requires
-difference-requires c κs = search needs
-
-difference-requires-2 : tie.Need-difference-requires-2
-difference-requires-2 c κs = search needs
-
 module _ (c : tie.After-struct-told) where
   start : tie.Start
   start = c .before .before .before .before
@@ -78,4 +72,4 @@ returns c =
     same (search needs) (search needs) (via (c .before .before .before .difference .result -ℤ c .before .before .difference2 .result) (search needs) (exact c))
 
 pub velocity-inputs-spec : {M : Type 1} → statement M
-velocity-inputs-spec = tie.close (tie.spec difference-requires difference-requires-2 sub-t6 sub-t7 returns)
+velocity-inputs-spec = tie.close (tie.spec (λ c κs. search needs) (λ c κs. search needs) sub-t6 sub-t7 returns)

@@ -4,12 +4,9 @@ use Rattle.engine.specs.Sensing.{changed}
 use Rattle.engine.proofs.sensing.changes.Statement.{statement}
 use Rattle.engine.proofs.sensing.changes.Tie as tie
 
-is-manual-requires : tie.Need-is-manual-requires
-is-manual-requires c κs = search needs
-
 returns : tie.Need-returns
 unfolding changed
 returns c = rw (c .before .is-manual .ensures)
 
 pub changes-spec : {M : Type 1} → statement M
-changes-spec = tie.close (tie.spec is-manual-requires returns)
+changes-spec = tie.close (tie.spec (λ c κs. search needs) returns)

@@ -4,15 +4,9 @@ use Rattle.engine.specs.Sensing.{entering}
 use Rattle.engine.proofs.sensing.enters.Statement.{statement}
 use Rattle.engine.proofs.sensing.enters.Tie as tie
 
-changes-requires : tie.Need-changes-requires
-changes-requires c κs = search needs
-
-is-manual-requires : tie.Need-is-manual-requires
-is-manual-requires c κs = search needs
-
 returns : tie.Need-returns
 unfolding entering
 returns c = rw (c .before .is-manual .ensures, c .before .before .changes .ensures)
 
 pub enters-spec : {M : Type 1} → statement M
-enters-spec = tie.close (tie.spec changes-requires is-manual-requires returns)
+enters-spec = tie.close (tie.spec (λ c κs. search needs) (λ c κs. search needs) returns)

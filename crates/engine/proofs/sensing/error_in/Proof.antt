@@ -6,22 +6,12 @@ use Rattle.engine.specs.Sensing.{errorIn}
 use Rattle.engine.proofs.sensing.error_in.Statement.{statement}
 use Rattle.engine.proofs.sensing.error_in.Tie as tie
 
-in-deadband-requires : tie.Need-in-deadband-requires
-in-deadband-requires c κs = search needs
-
-output-counts-requires : tie.Need-output-counts-requires
-output-counts-requires c κs = search needs
-
-error-requires : tie.Need-error-requires
-error-requires c κs = search needs
-
 returns : tie.Need-returns
 unfolding errorIn
 returns c =
     let q = c .before in
     let o = q .before in
-    got (c .error .result) (c .error .ok) ∙ c .error .ensures
-    ∙ simp (q .in-deadband .ensures, o .output-counts .ensures, o .before .before .pre .2)
+    got (c .error .result) (c .error .ok) ∙ c .error .ensures ∙ simp (q .in-deadband .ensures, o .output-counts .ensures)
 
 pub error-in-spec : {M : Type 1} → statement M
-error-in-spec = tie.close (tie.spec output-counts-requires in-deadband-requires error-requires returns)
+error-in-spec = tie.close (tie.spec (λ c κs. search needs) (λ c κs. search needs) (λ c κs. search needs) returns)

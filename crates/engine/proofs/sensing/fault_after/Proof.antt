@@ -5,9 +5,6 @@ use Rattle.engine.specs.Sensing.{faultAfter}
 use Rattle.engine.proofs.sensing.fault_after.Statement.{statement}
 use Rattle.engine.proofs.sensing.fault_after.Tie as tie
 
-is-cascade-requires : tie.Need-is-cascade-requires
-is-cascade-requires c κs = search needs
-
 returns : tie.Need-returns
 unfolding faultAfter
 returns c = rw (sym (c .before .is-cascade .ensures) ∙ c .if1 .taken)
@@ -17,4 +14,4 @@ unfolding faultAfter
 returns-2 c = rw (sym (c .before .is-cascade .ensures) ∙ c .if1 .left)
 
 pub fault-after-spec : {M : Type 1} → statement M
-fault-after-spec = tie.close (tie.spec is-cascade-requires returns returns-2)
+fault-after-spec = tie.close (tie.spec (λ c κs. search needs) returns returns-2)

@@ -5,9 +5,6 @@ use Rattle.engine.specs.Sensing.{setpointOf}
 use Rattle.engine.proofs.sensing.own_setpoint.Statement.{statement}
 use Rattle.engine.proofs.sensing.own_setpoint.Tie as tie
 
-is-cascade-requires : tie.Need-is-cascade-requires
-is-cascade-requires c κs = search needs
-
 returns : tie.Need-returns
 unfolding setpointOf
 returns c = rw (sym (c .before .is-cascade .ensures) ∙ c .if1 .taken)
@@ -17,4 +14,4 @@ unfolding setpointOf
 returns-2 c = rw (sym (c .before .is-cascade .ensures) ∙ c .if1 .left)
 
 pub own-setpoint-spec : {M : Type 1} → statement M
-own-setpoint-spec = tie.close (tie.spec is-cascade-requires returns returns-2)
+own-setpoint-spec = tie.close (tie.spec (λ c κs. search needs) returns returns-2)

@@ -5,12 +5,6 @@ use Rattle.engine.specs.Sensing.{profiledOf}
 use Rattle.engine.proofs.sensing.profiled.Statement.{statement}
 use Rattle.engine.proofs.sensing.profiled.Tie as tie
 
-is-cascade-requires : tie.Need-is-cascade-requires
-is-cascade-requires c κs = search needs
-
-sample-requires : tie.Need-sample-requires
-sample-requires c κs = search needs
-
 returns : tie.Need-returns
 unfolding profiledOf
 returns c = rw (sym (c .before .is-cascade .ensures) ∙ c .if1 .taken)
@@ -20,4 +14,4 @@ unfolding profiledOf
 returns-2 c = rw (sym (c .before .before .is-cascade .ensures) ∙ c .before .if1 .left) (c .sample .ensures)
 
 pub profiled-spec : {M : Type 1} → statement M
-profiled-spec = tie.close (tie.spec is-cascade-requires sample-requires returns returns-2)
+profiled-spec = tie.close (tie.spec (λ c κs. search needs) (λ c κs. search needs) returns returns-2)

@@ -8,12 +8,6 @@ returns : tie.Need-returns
 unfolding targetOf
 returns c = rw (c .if1 .taken)
 
-is-automatic-requires : tie.Need-is-automatic-requires
-is-automatic-requires c κs = search needs
-
-own-setpoint-requires : tie.Need-own-setpoint-requires
-own-setpoint-requires c κs = search needs
-
 returns-2 : tie.Need-returns-2
 unfolding targetOf
 returns-2 c =
@@ -27,4 +21,4 @@ returns-3 c =
     rw (c .own-setpoint .ensures, a .before .if1 .left, simp (a .is-automatic .ensures) at (c .before .if2 .left))
 
 pub target-of-spec : {M : Type 1} → statement M
-target-of-spec = tie.close (tie.spec returns is-automatic-requires own-setpoint-requires returns-2 returns-3)
+target-of-spec = tie.close (tie.spec returns (λ c κs. search needs) (λ c κs. search needs) returns-2 returns-3)

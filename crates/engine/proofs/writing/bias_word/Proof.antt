@@ -15,12 +15,6 @@ use Rattle.engine.specs.Writing.{biasWord}
 use Rattle.engine.proofs.writing.bias_word.Statement.{statement}
 use Rattle.engine.proofs.writing.bias_word.Tie as tie
 
-units-requires : tie.Need-units-requires
-units-requires c κs = search needs
-
-clamp-requires : tie.Need-clamp-requires
-clamp-requires c κs = search needs
-
 module _ (c : tie.After-clamp) where
   start : tie.Start
   start = c .before .before .before .before
@@ -55,4 +49,4 @@ returns-2 c =
     simp (c .nearest-count .ensures, got (d .result) (d .ok)) (simp (clamped (c .before), c .before .before .before .before .if1 .left))
 
 pub bias-word-spec : {M : Type 1} → statement M
-bias-word-spec = tie.close (tie.spec units-requires clamp-requires nearest-count-requires returns returns-2)
+bias-word-spec = tie.close (tie.spec (λ c κs. search needs) (λ c κs. search needs) nearest-count-requires returns returns-2)

@@ -6,9 +6,6 @@ use Rattle.engine.specs.Writing.{nextOf}
 use Rattle.engine.proofs.writing.next_record.Statement.{statement}
 use Rattle.engine.proofs.writing.next_record.Tie as tie
 
-earlier-requires : tie.Need-earlier-requires
-earlier-requires c κs = search needs
-
 returns : tie.Need-returns
 unfolding nextOf
 returns c =
@@ -16,4 +13,4 @@ returns c =
     simp (c .before .earlier .ensures, toZ-ofZ {w = w64} {z = e} (search needs))
 
 pub next-record-spec : {M : Type 1} → statement M
-next-record-spec = tie.close (tie.spec earlier-requires returns)
+next-record-spec = tie.close (tie.spec (λ c κs. search needs) returns)

@@ -6,9 +6,6 @@ use Rattle.engine.specs.Writing.{outputWord}
 use Rattle.engine.proofs.writing.output_word.Statement.{statement}
 use Rattle.engine.proofs.writing.output_word.Tie as tie
 
-nearest-count-requires : tie.Need-nearest-count-requires
-nearest-count-requires c κs = search needs
-
 returns : tie.Need-returns
 unfolding outputWord
 returns c = rw (c .if1 .taken)
@@ -20,4 +17,4 @@ returns-2 c =
     simp (c .nearest-count .ensures, toZ-ofZ {w = w64} {z = output} (search needs), c .before .before .if1 .left)
 
 pub output-word-spec : {M : Type 1} → statement M
-output-word-spec = tie.close (tie.spec nearest-count-requires returns returns-2)
+output-word-spec = tie.close (tie.spec (λ c κs. search needs) returns returns-2)

@@ -4,12 +4,9 @@ use Rattle.engine.specs.Writing.{statusWord}
 use Rattle.engine.proofs.writing.status_after.Statement.{statement}
 use Rattle.engine.proofs.writing.status_after.Tie as tie
 
-status-word-requires : tie.Need-status-word-requires
-status-word-requires c κs = search needs
-
 returns : tie.Need-returns
 unfolding statusWord
 returns c = c .status-word .ensures
 
 pub status-after-spec : {M : Type 1} → statement M
-status-after-spec = tie.close (tie.spec status-word-requires returns)
+status-after-spec = tie.close (tie.spec (λ c κs. search needs) returns)

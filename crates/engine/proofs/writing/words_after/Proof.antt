@@ -4,21 +4,6 @@ use Rattle.engine.specs.Writing.{writtenOf}
 use Rattle.engine.proofs.writing.words_after.Statement.{statement}
 use Rattle.engine.proofs.writing.words_after.Tie as tie
 
-is-manual-requires : tie.Need-is-manual-requires
-is-manual-requires c κs = search needs
-
-output-word-requires : tie.Need-output-word-requires
-output-word-requires c κs = search needs
-
-bias-word-requires : tie.Need-bias-word-requires
-bias-word-requires c κs = search needs
-
-status-after-requires : tie.Need-status-after-requires
-status-after-requires c κs = search needs
-
-clear-requests-requires : tie.Need-clear-requests-requires
-clear-requests-requires c κs = search needs
-
 returns : tie.Need-returns
 unfolding writtenOf
 returns c =
@@ -33,4 +18,4 @@ returns c =
 pub words-after-spec : {M : Type 1} → statement M
 words-after-spec =
     tie.close
-    (tie.spec is-manual-requires output-word-requires bias-word-requires status-after-requires clear-requests-requires returns)
+    (tie.spec (λ c κs. search needs) (λ c κs. search needs) (λ c κs. search needs) (λ c κs. search needs) (λ c κs. search needs) returns)

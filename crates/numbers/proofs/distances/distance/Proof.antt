@@ -5,9 +5,6 @@ use Rattle.numbers.specs.Distances.{apart}
 use Rattle.numbers.proofs.distances.distance.Statement.{statement}
 use Rattle.numbers.proofs.distances.distance.Tie as tie
 
-sub-result : tie.Need-sub-result
-sub-result c = search needs
-
 returns : tie.Need-returns
 unfolding apart
 returns c = rw (lt-ltb _ _ (c .if1 .taken))
@@ -17,4 +14,4 @@ unfolding apart
 returns-2 c = rw (le-ltb _ _ (c .if1 .left))
 
 pub distance-spec : {M : Type 1} → statement M
-distance-spec = tie.close (tie.spec sub-result returns returns-2)
+distance-spec = tie.close (tie.spec (λ c. search needs) returns returns-2)

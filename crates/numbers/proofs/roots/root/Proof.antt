@@ -29,12 +29,6 @@ add-x c = let l = c .before .loop in omega (arith, round-fits (l .counter) (omeg
 add-x-2 : tie.Need-add-x-2 Inv-loop μ-loop
 add-x-2 c = let l = c .before .loop in omega (arith, round-fits (l .counter) (omega arith) (l .inv .1))
 
-add-counter : tie.Need-add-counter Inv-loop μ-loop
-add-counter c = omega arith
-
-loop-less : tie.Need-loop-less Inv-loop μ-loop
-loop-less c = omega arith
-
 loop-again : tie.Need-loop-again Inv-loop μ-loop
 loop-again c = let l = c .before .loop in (omega arith, close-after (l .counter) (omega arith) (l .inv .1))
 
@@ -74,4 +68,4 @@ returns-2 c =
 pub root-spec : {M : Type 1} → statement M
 root-spec =
     tie.close
-    (tie.spec Inv-loop μ-loop first-guess-requires loop-holds div-x add-x add-x-2 add-counter loop-less loop-again sub-below cast-if1 cast-if1-2 mul-if1 returns returns-2)
+    (tie.spec Inv-loop μ-loop first-guess-requires loop-holds div-x add-x add-x-2 (λ c. omega arith) (λ c. omega arith) loop-again sub-below cast-if1 cast-if1-2 mul-if1 returns returns-2)

@@ -9,9 +9,6 @@ use Rattle.numbers.proofs.Machine.{back, got}
 use Rattle.numbers.proofs.rounding.half_away.Statement.{statement}
 use Rattle.numbers.proofs.rounding.half_away.Tie as tie
 
-magnitude-requires : tie.Need-magnitude-requires
-magnitude-requires c κs = search needs
-
 size : (c : tie.After-magnitude) → c .magnitude .result ≡ natAbs (c .before .args .z)
 size c = cc (back (c .before .fits .z))
 
@@ -29,4 +26,4 @@ returns c =
     cc (got (c .with-sign .result) (c .with-sign .ok), back (s .fits .z), size (c .before .before))
 
 pub half-away-spec : {M : Type 1} → statement M
-half-away-spec = tie.close (tie.spec magnitude-requires half-up-requires with-sign-requires returns)
+half-away-spec = tie.close (tie.spec (λ c κs. search needs) half-up-requires with-sign-requires returns)

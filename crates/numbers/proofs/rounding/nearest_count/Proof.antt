@@ -11,9 +11,6 @@ use Rattle.numbers.proofs.Machine.{back}
 use Rattle.numbers.proofs.rounding.nearest_count.Statement.{statement}
 use Rattle.numbers.proofs.rounding.nearest_count.Tie as tie
 
-to-unsigned-requires : tie.Need-to-unsigned-requires
-to-unsigned-requires c κs = search needs
-
 -- the units, not negative
 size : (c : tie.After-to-unsigned) → c .to-unsigned .result ≡ natAbs (c .before .args .x)
 size c = cc (back (c .before .fits .x))
@@ -31,4 +28,4 @@ returns : tie.Need-returns
 returns c = cc (size (c .before))
 
 pub nearest-count-spec : {M : Type 1} → statement M
-nearest-count-spec = tie.close (tie.spec to-unsigned-requires half-up-requires cast-result returns)
+nearest-count-spec = tie.close (tie.spec (λ c κs. search needs) half-up-requires cast-result returns)

@@ -12,9 +12,6 @@ use Rattle.numbers.proofs.Machine.{small, via}
 use Rattle.numbers.proofs.rounding.scaled.Statement.{statement}
 use Rattle.numbers.proofs.rounding.scaled.Tie as tie
 
-to-signed-requires : tie.Need-to-signed-requires
-to-signed-requires c κs = search needs
-
 module _ (c : tie.After-to-signed) where
   product : c .to-signed .result *ℤ c .before .args .z ≡ pos (c .before .args .k) *ℤ c .before .args .z
   product = ap (λ (x : ℤ). x *ℤ c .before .args .z) (c .to-signed .ensures)
@@ -40,4 +37,4 @@ returns c =
     (c .half-away .ensures ∙ via (halfAway x d) (search needs) (ap (λ (y : ℤ). halfAway y d) (product (c .before))))
 
 pub scaled-spec : {M : Type 1} → statement M
-scaled-spec = tie.close (tie.spec to-signed-requires mul-half-away half-away-requires returns)
+scaled-spec = tie.close (tie.spec (λ c κs. search needs) mul-half-away half-away-requires returns)

@@ -16,9 +16,6 @@ mul-half-up c = omega (arith, product c)
 half-up-requires : tie.Need-half-up-requires
 half-up-requires c κs = omega (arith, product c, c .pre, c .fits .from)
 
-cast-result : tie.Need-cast-result
-cast-result c = search needs
-
 returns : tie.Need-returns
 unfolding converted
 returns c = omega (arith, c .before .half-up .ensures, c .if1 .taken)
@@ -28,4 +25,4 @@ unfolding converted
 returns-2 c = omega (arith, c .before .half-up .ensures, c .if1 .left)
 
 pub convert-spec : {M : Type 1} → statement M
-convert-spec = tie.close (tie.spec mul-half-up half-up-requires cast-result returns returns-2)
+convert-spec = tie.close (tie.spec mul-half-up half-up-requires (λ c. search needs) returns returns-2)

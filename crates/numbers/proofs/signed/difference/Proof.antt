@@ -9,12 +9,6 @@ use Rattle.numbers.proofs.Machine.{sub-fits, via}
 use Rattle.numbers.proofs.signed.difference.Statement.{statement}
 use Rattle.numbers.proofs.signed.difference.Tie as tie
 
-to-signed-requires : tie.Need-to-signed-requires
-to-signed-requires c κs = search needs
-
-to-signed-requires-2 : tie.Need-to-signed-requires-2
-to-signed-requires-2 c κs = search needs
-
 -- the difference of what the two calls give is that of the words, and fits
 module _ (c : tie.After-to-signed2) where
   exact : c .before .to-signed .result -ℤ c .to-signed2 .result ≡ pos (c .before .before .args .a) -ℤ pos (c .before .before .args .b)
@@ -32,4 +26,4 @@ returns c =
     via (c .before .to-signed .result -ℤ c .to-signed2 .result) (search needs) (exact c)
 
 pub difference-spec : {M : Type 1} → statement M
-difference-spec = tie.close (tie.spec to-signed-requires to-signed-requires-2 sub-result returns)
+difference-spec = tie.close (tie.spec (λ c κs. search needs) (λ c κs. search needs) sub-result returns)

@@ -5,11 +5,8 @@ use mir.Facts.{toZ-pos}
 use Rattle.numbers.proofs.signed.to_signed.Statement.{statement}
 use Rattle.numbers.proofs.signed.to_signed.Tie as tie
 
-cast-result : tie.Need-cast-result
-cast-result c = search needs
-
 returns : tie.Need-returns
 returns c = toZ-pos w64 (c .pre)
 
 pub to-signed-spec : {M : Type 1} → statement M
-to-signed-spec = tie.close (tie.spec cast-result returns)
+to-signed-spec = tie.close (tie.spec (λ c. search needs) returns)

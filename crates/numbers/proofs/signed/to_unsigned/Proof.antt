@@ -9,8 +9,5 @@ use Rattle.numbers.proofs.signed.to_unsigned.Tie as tie
 cast-result : tie.Need-cast-result
 cast-result c = simp (back (c .fits .z)) (yes-nonNeg (c .pre), fits-natAbs tt (c .fits .z))
 
-returns : tie.Need-returns
-returns c = search needs
-
 pub to-unsigned-spec : {M : Type 1} → statement M
-to-unsigned-spec = tie.close (tie.spec cast-result returns)
+to-unsigned-spec = tie.close (tie.spec cast-result (λ c. search needs))

@@ -12,9 +12,6 @@ use Rattle.numbers.proofs.Machine.{back, small, taken, left, via}
 use Rattle.numbers.proofs.signed.with_sign.Statement.{statement}
 use Rattle.numbers.proofs.signed.with_sign.Tie as tie
 
-to-signed-requires : tie.Need-to-signed-requires
-to-signed-requires c κs = search needs
-
 -- 0 − s is −m, and fits
 turned : (c : tie.Then1) → pos 0 -ℤ c .before .to-signed .result ≡ negℤ (pos (c .before .before .args .m))
 turned c = +ℤ-idl (negℤ (c .before .to-signed .result)) ∙ ap negℤ (c .before .to-signed .ensures)
@@ -39,4 +36,4 @@ returns-2 c =
     via (c .before .to-signed .result) (search needs) (c .before .to-signed .ensures ∙ sym (sign-plus (s .args .z) (s .args .m) above))
 
 pub with-sign-spec : {M : Type 1} → statement M
-with-sign-spec = tie.close (tie.spec to-signed-requires sub-result returns returns-2)
+with-sign-spec = tie.close (tie.spec (λ c κs. search needs) sub-result returns returns-2)

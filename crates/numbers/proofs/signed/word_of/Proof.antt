@@ -6,9 +6,6 @@ use Rattle.numbers.proofs.Machine.{back}
 use Rattle.numbers.proofs.signed.word_of.Statement.{statement}
 use Rattle.numbers.proofs.signed.word_of.Tie as tie
 
-to-unsigned-requires : tie.Need-to-unsigned-requires
-to-unsigned-requires c κs = search needs
-
 cast-result : tie.Need-cast-result
 cast-result c =
     let s = c .before in
@@ -19,4 +16,4 @@ returns : tie.Need-returns
 returns c = simp (back (c .before .fits .z)) at (c .to-unsigned .ensures)
 
 pub word-of-spec : {M : Type 1} → statement M
-word-of-spec = tie.close (tie.spec to-unsigned-requires cast-result returns)
+word-of-spec = tie.close (tie.spec (λ c κs. search needs) cast-result returns)

@@ -5,32 +5,11 @@ use Rattle.profile.specs.Flags.{flagsOf}
 use Rattle.profile.proofs.flags.flags_word.Statement.{statement}
 use Rattle.profile.proofs.flags.flags_word.Tie as tie
 
-is-soak-requires : tie.Need-is-soak-requires
-is-soak-requires c κs = search needs
-
-deviates-by-requires : tie.Need-deviates-by-requires
-deviates-by-requires c κs = search needs
-
-cast-result : tie.Need-cast-result
-cast-result c = search needs
-
-mul-result : tie.Need-mul-result
-mul-result c = search needs
-
-flag-requires : tie.Need-flag-requires
-flag-requires c κs = search needs
-
 add-result : tie.Need-add-result
 add-result c = omega (arith, c .flag .ensures)
 
-flag-requires-2 : tie.Need-flag-requires-2
-flag-requires-2 c κs = search needs
-
 add-result-2 : tie.Need-add-result-2
 add-result-2 c = omega (arith, c .flag2 .ensures, c .before .flag .ensures)
-
-flag-requires-3 : tie.Need-flag-requires-3
-flag-requires-3 c κs = search needs
 
 add-result-3 : tie.Need-add-result-3
 add-result-3 c = omega (arith, c .flag3 .ensures, c .before .flag2 .ensures, c .before .before .flag .ensures)
@@ -45,14 +24,14 @@ pub flags-word-spec : {M : Type 1} → statement M
 flags-word-spec =
     tie.close
     (tie.spec
-    is-soak-requires
-    deviates-by-requires
-    cast-result
-    mul-result
-    flag-requires
+    (λ c κs. search needs)
+    (λ c κs. search needs)
+    (λ c. search needs)
+    (λ c. search needs)
+    (λ c κs. search needs)
     add-result
-    flag-requires-2
+    (λ c κs. search needs)
     add-result-2
-    flag-requires-3
+    (λ c κs. search needs)
     add-result-3
     returns)

@@ -16,7 +16,7 @@ use Rattle.profile.proofs.forecasting.soaks.Kinds as soaks-kinds
 use Rattle.profile.proofs.forecasting.+ramps+soaks.Lts-soaks as soaks-lts
 use Rattle.profile.proofs.forecasting.count.Reads as count
 use Rattle.profile.proofs.forecasting.way.Reads as way
-use Rattle.table.proofs.read_pair.Reads as read-pair
+use Rattle.reading.proofs.read_pair.Reads as read-pair
 use Rattle.profile.proofs.forecasting.+ramps+soaks.{statement}
 use Rattle.profile.proofs.forecasting.+ramps+soaks.Tie.{close}
 

@@ -12,12 +12,6 @@ use Rattle.profile.proofs.forecasting.count.Tie as tie
 returns : tie.Need-returns
 returns c = sym (count-last (c .before .args .way) (c .before .args .step) (omega arith) (c .before .pre))
 
-sub-result : tie.Need-sub-result
-sub-result c = search needs
-
-div-result : tie.Need-div-result
-div-result c = search needs
-
 cast-result : tie.Need-cast-result
 cast-result c = omega (arith, div-le-self (c .before .args .way - 1) (c .before .args .step))
 
@@ -29,4 +23,4 @@ unfolding countOf
 returns-2 c = search needs
 
 pub count-spec : {M : Type 1} → statement M
-count-spec = tie.close (tie.spec returns sub-result div-result cast-result add-result returns-2)
+count-spec = tie.close (tie.spec returns (λ c. search needs) (λ c. search needs) cast-result add-result returns-2)

@@ -9,30 +9,6 @@ use Rattle.profile.proofs.forecasting.forecast.Tie as tie
 returns : tie.Need-returns
 returns c = sym (none-left _ _ _ _ (c .if1 .taken))
 
-mul-at : tie.Need-mul-at
-mul-at c = search needs
-
-cast-at : tie.Need-cast-at
-cast-at c = search needs
-
-add-at : tie.Need-add-at
-add-at c = search needs
-
-add-left : tie.Need-add-left
-add-left c = search needs
-
-cast-left : tie.Need-cast-left
-cast-left c = search needs
-
-sub-left : tie.Need-sub-left
-sub-left c = search needs
-
-ramps-requires : tie.Need-ramps-requires
-ramps-requires c κs = search needs
-
-soaks-requires : tie.Need-soaks-requires
-soaks-requires c κs = search needs
-
 returns-2 : tie.Need-returns-2
 returns-2 c = c .ramps .ensures .0 ∙ sym (on-ramp _ _ _ _ (omega arith))
 
@@ -44,13 +20,13 @@ forecast-spec =
     tie.close
     (tie.spec
     returns
-    mul-at
-    cast-at
-    add-at
-    add-left
-    cast-left
-    sub-left
-    ramps-requires
-    soaks-requires
+    (λ c. search needs)
+    (λ c. search needs)
+    (λ c. search needs)
+    (λ c. search needs)
+    (λ c. search needs)
+    (λ c. search needs)
+    (λ c κs. search needs)
+    (λ c κs. search needs)
     returns-2
     returns-3)

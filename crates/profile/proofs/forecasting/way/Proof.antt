@@ -5,9 +5,6 @@ use Rattle.numbers.specs.Distances.{apart}
 use Rattle.profile.proofs.forecasting.way.Statement.{statement}
 use Rattle.profile.proofs.forecasting.way.Tie as tie
 
-sub-result : tie.Need-sub-result
-sub-result c = search needs
-
 returns : tie.Need-returns
 unfolding apart
 returns c = rw (lt-ltb _ _ (c .if1 .taken))
@@ -17,4 +14,4 @@ unfolding apart
 returns-2 c = rw (le-ltb _ _ (c .if1 .left))
 
 pub way-spec : {M : Type 1} → statement M
-way-spec = tie.close (tie.spec sub-result returns returns-2)
+way-spec = tie.close (tie.spec (λ c. search needs) returns returns-2)

@@ -5,12 +5,6 @@ use Rattle.profile.specs.Moves.{handedOver}
 use Rattle.profile.proofs.moves.handed_over.Statement.{statement}
 use Rattle.profile.proofs.moves.handed_over.Tie as tie
 
-add-t4 : tie.Need-add-t4
-add-t4 c = search needs
-
-completed-requires : tie.Need-completed-requires
-completed-requires c κs = search needs
-
 returns : tie.Need-returns
 unfolding handedOver
 returns c = rw (lt-ltb _ _ (c .before .if1 .taken))
@@ -20,4 +14,4 @@ unfolding handedOver
 returns-2 c = rw (le-ltb _ _ (c .before .if1 .left)) (c .completed .ensures)
 
 pub handed-over-spec : {M : Type 1} → statement M
-handed-over-spec = tie.close (tie.spec add-t4 completed-requires returns returns-2)
+handed-over-spec = tie.close (tie.spec (λ c. search needs) (λ c κs. search needs) returns returns-2)

@@ -5,9 +5,6 @@ use Rattle.profile.specs.Moves.{joggedOf}
 use Rattle.profile.proofs.moves.jogged.Statement.{statement}
 use Rattle.profile.proofs.moves.jogged.Tie as tie
 
-handed-over-requires : tie.Need-handed-over-requires
-handed-over-requires c κs = search needs
-
 returns : tie.Need-returns
 unfolding joggedOf
 returns c = rw (eq-eqb _ _ (c .if1 .taken))
@@ -17,4 +14,4 @@ unfolding joggedOf
 returns-2 c = rw (ne-eqb _ _ (c .before .if1 .left)) (c .handed-over .ensures)
 
 pub jogged-spec : {M : Type 1} → statement M
-jogged-spec = tie.close (tie.spec handed-over-requires returns returns-2)
+jogged-spec = tie.close (tie.spec (λ c κs. search needs) returns returns-2)

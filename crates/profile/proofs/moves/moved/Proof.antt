@@ -5,12 +5,6 @@ use Rattle.profile.specs.Moves.{movedBy}
 use Rattle.profile.proofs.moves.moved.Statement.{statement}
 use Rattle.profile.proofs.moves.moved.Tie as tie
 
-ramped-requires : tie.Need-ramped-requires
-ramped-requires c κs = search needs
-
-soaked-requires : tie.Need-soaked-requires
-soaked-requires c κs = search needs
-
 returns : tie.Need-returns
 unfolding movedBy
 returns c = rw (c .if1 .taken)
@@ -24,4 +18,4 @@ unfolding movedBy
 returns-3 c = rw (c .before .before .before .if1 .left, ne-eqb _ _ (c .before .if2 .left), c .soaked .ensures)
 
 pub moved-spec : {M : Type 1} → statement M
-moved-spec = tie.close (tie.spec ramped-requires soaked-requires returns returns-2 returns-3)
+moved-spec = tie.close (tie.spec (λ c κs. search needs) (λ c κs. search needs) returns returns-2 returns-3)

@@ -5,15 +5,6 @@ use Rattle.profile.specs.Moves.{toward}
 use Rattle.profile.proofs.moves.moved_toward.Statement.{statement}
 use Rattle.profile.proofs.moves.moved_toward.Tie as tie
 
-sub-if2 : tie.Need-sub-if2
-sub-if2 c = search needs
-
-add-result : tie.Need-add-result
-add-result c = search needs
-
-sub-result : tie.Need-sub-result
-sub-result c = search needs
-
 returns : tie.Need-returns
 unfolding toward
 returns c = rw (lt-ltb _ _ (c .before .if1 .taken), le-leb _ _ (c .if2 .taken))
@@ -32,4 +23,4 @@ returns-4 c = rw (le-ltb _ _ (c .before .if1 .left), lt-leb _ _ (c .if3 .left))
 
 pub moved-toward-spec : {M : Type 1} → statement M
 moved-toward-spec =
-    tie.close (tie.spec sub-if2 add-result sub-result returns returns-2 returns-3 returns-4)
+    tie.close (tie.spec (λ c. search needs) (λ c. search needs) (λ c. search needs) returns returns-2 returns-3 returns-4)

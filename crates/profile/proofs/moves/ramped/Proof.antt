@@ -8,38 +8,14 @@ use Rattle.profile.specs.Moves.Laws.{toward-high}
 use Rattle.profile.proofs.moves.ramped.Statement.{statement}
 use Rattle.profile.proofs.moves.ramped.Tie as tie
 
-completed-requires : tie.Need-completed-requires
-completed-requires c κs = search needs
-
 returns : tie.Need-returns
 unfolding rampedBy
 returns c = rw (eq-eqb _ _ (c .before .if1 .taken), c .completed .ensures)
-
-mul-from : tie.Need-mul-from
-mul-from c = search needs
-
-cast-from : tie.Need-cast-from
-cast-from c = search needs
-
-add-from : tie.Need-add-from
-add-from c = search needs
-
-cast-to : tie.Need-cast-to
-cast-to c = search needs
-
-mul-to : tie.Need-mul-to
-mul-to c = search needs
-
-cast-moved-toward : tie.Need-cast-moved-toward
-cast-moved-toward c = search needs
 
 mul-moved-toward : tie.Need-mul-moved-toward
 mul-moved-toward c =
     let a = c .before .before .before .before .before .args in
     omega (arith, mul-le-mul {n₁ = a .pair .slope} {m₁ = a .period} {n₂ = 65535} {m₂ = 65535} (search needs) (search needs))
-
-moved-toward-requires : tie.Need-moved-toward-requires
-moved-toward-requires c κs = search needs
 
 ramped-to-requires : tie.Need-ramped-to-requires
 ramped-to-requires c κs = rw (c .moved-toward .ensures) (toward-high _ _ _ 655359999 (omega arith) (omega arith))
@@ -52,15 +28,15 @@ pub ramped-spec : {M : Type 1} → statement M
 ramped-spec =
     tie.close
     (tie.spec
-    completed-requires
+    (λ c κs. search needs)
     returns
-    mul-from
-    cast-from
-    add-from
-    cast-to
-    mul-to
-    cast-moved-toward
+    (λ c. search needs)
+    (λ c. search needs)
+    (λ c. search needs)
+    (λ c. search needs)
+    (λ c. search needs)
+    (λ c. search needs)
     mul-moved-toward
-    moved-toward-requires
+    (λ c κs. search needs)
     ramped-to-requires
     returns-2)

@@ -5,15 +5,6 @@ use Rattle.profile.specs.Moves.{rampedTo}
 use Rattle.profile.proofs.moves.ramped_to.Statement.{statement}
 use Rattle.profile.proofs.moves.ramped_to.Tie as tie
 
-cast-setpoint : tie.Need-cast-setpoint
-cast-setpoint c = search needs
-
-cast-t7 : tie.Need-cast-t7
-cast-t7 c = search needs
-
-handed-over-requires : tie.Need-handed-over-requires
-handed-over-requires c κs = search needs
-
 returns : tie.Need-returns
 unfolding rampedTo
 returns c = simp (eq-eqb _ _ (c .before .if1 .taken), c .handed-over .ensures)
@@ -23,4 +14,4 @@ unfolding rampedTo
 returns-2 c = simp (ne-eqb _ _ (c .if1 .left))
 
 pub ramped-to-spec : {M : Type 1} → statement M
-ramped-to-spec = tie.close (tie.spec cast-setpoint cast-t7 handed-over-requires returns returns-2)
+ramped-to-spec = tie.close (tie.spec (λ c. search needs) (λ c. search needs) (λ c κs. search needs) returns returns-2)

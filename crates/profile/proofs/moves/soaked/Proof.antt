@@ -5,18 +5,6 @@ use Rattle.profile.specs.Moves.{soakedBy}
 use Rattle.profile.proofs.moves.soaked.Statement.{statement}
 use Rattle.profile.proofs.moves.soaked.Tie as tie
 
-add-time : tie.Need-add-time
-add-time c = search needs
-
-cast-if1 : tie.Need-cast-if1
-cast-if1 c = search needs
-
-mul-if1 : tie.Need-mul-if1
-mul-if1 c = search needs
-
-handed-over-requires : tie.Need-handed-over-requires
-handed-over-requires c κs = search needs
-
 returns : tie.Need-returns
 unfolding soakedBy
 returns c = rw (le-leb _ _ (c .before .if1 .taken)) (c .handed-over .ensures)
@@ -26,4 +14,4 @@ unfolding soakedBy
 returns-2 c = rw (lt-leb _ _ (c .if1 .left))
 
 pub soaked-spec : {M : Type 1} → statement M
-soaked-spec = tie.close (tie.spec add-time cast-if1 mul-if1 handed-over-requires returns returns-2)
+soaked-spec = tie.close (tie.spec (λ c. search needs) (λ c. search needs) (λ c. search needs) (λ c κs. search needs) returns returns-2)

@@ -4,36 +4,6 @@ use Rattle.profile.specs.Moves.{workedBy}
 use Rattle.profile.proofs.moves.worked.Statement.{statement}
 use Rattle.profile.proofs.moves.worked.Tie as tie
 
-enum-told : tie.Need-enum-told
-enum-told c = search needs
-
-started-requires : tie.Need-started-requires
-started-requires c κs = search needs
-
-enum-told-2 : tie.Need-enum-told-2
-enum-told-2 c = search needs
-
-with-hold-requires : tie.Need-with-hold-requires
-with-hold-requires c κs = search needs
-
-enum-told-3 : tie.Need-enum-told-3
-enum-told-3 c = search needs
-
-with-hold-requires-2 : tie.Need-with-hold-requires-2
-with-hold-requires-2 c κs = search needs
-
-enum-told-4 : tie.Need-enum-told-4
-enum-told-4 c = search needs
-
-jogged-requires : tie.Need-jogged-requires
-jogged-requires c κs = search needs
-
-enum-told-5 : tie.Need-enum-told-5
-enum-told-5 c = search needs
-
-moved-requires : tie.Need-moved-requires
-moved-requires c κs = search needs
-
 returns : tie.Need-returns
 unfolding workedBy
 returns c = rw (c .before .enum-told .given .1, c .started .ensures)
@@ -58,16 +28,16 @@ pub worked-spec : {M : Type 1} → statement M
 worked-spec =
     tie.close
     (tie.spec
-    enum-told
-    started-requires
-    enum-told-2
-    with-hold-requires
-    enum-told-3
-    with-hold-requires-2
-    enum-told-4
-    jogged-requires
-    enum-told-5
-    moved-requires
+    (λ c. search needs)
+    (λ c κs. search needs)
+    (λ c. search needs)
+    (λ c κs. search needs)
+    (λ c. search needs)
+    (λ c κs. search needs)
+    (λ c. search needs)
+    (λ c κs. search needs)
+    (λ c. search needs)
+    (λ c κs. search needs)
     returns
     returns-2
     returns-3

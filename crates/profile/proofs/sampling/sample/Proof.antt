@@ -8,12 +8,6 @@ use Rattle.profile.specs.Samples.{sampledBy}
 use Rattle.profile.proofs.sampling.sample.Statement.{statement}
 use Rattle.profile.proofs.sampling.sample.Tie as tie
 
-command-of-requires : tie.Need-command-of-requires
-command-of-requires c κs = search needs
-
-worked-requires : tie.Need-worked-requires
-worked-requires c κs = search needs
-
 -- with a program
 module _ (c : tie.After-worked) where
   abbrev start : tie.Start
@@ -29,9 +23,6 @@ flags-word-requires c κs =
     let a = start w .args in
     rw (moved w) (advanced-within (start w .pre .0) (a .program) (start w .pre .1) (a .flags) (a .period) (a .setpoint) .segment)
 
-ended-requires : tie.Need-ended-requires
-ended-requires c κs = search needs
-
 returns : tie.Need-returns
 unfolding sampledBy
 returns c = let w = c .before .before in simp (c .flags-word .ensures, moved w)
@@ -44,9 +35,9 @@ pub sample-spec : {M : Type 1} → statement M
 sample-spec =
     tie.close
     (tie.spec
-    command-of-requires
-    worked-requires
+    (λ c κs. search needs)
+    (λ c κs. search needs)
     flags-word-requires
-    ended-requires
+    (λ c κs. search needs)
     returns
     returns-2)

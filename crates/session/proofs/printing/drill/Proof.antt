@@ -9,12 +9,6 @@ use borrow.Author.Needs.{needs}
 use Rattle.session.proofs.printing.drill.Statement.{statement}
 use Rattle.session.proofs.printing.drill.Tie as tie
 
-put-too-long-requires : tie.Need-put-too-long-requires
-put-too-long-requires c κs = search needs
-
-same-length : tie.Need-same-length
-same-length c = search needs
-
 returns : tie.Need-returns
 unfolding printedWithin printedOf
 returns c =
@@ -32,27 +26,6 @@ unfolding printedWithin printedOf
 returns-2 c =
     rw (le-ltb 65536 _ (c .before .if1 .left), lt-ltb _ _ (c .if2 .taken)) (printed (record { buffer = refl; place = refl }) (omega arith))
 
-slice-aggregate-reset : tie.Need-slice-aggregate-reset
-slice-aggregate-reset c = search needs
-
-slice-aggregate-reset-2 : tie.Need-slice-aggregate-reset-2
-slice-aggregate-reset-2 c = search needs
-
-reset-requires : tie.Need-reset-requires
-reset-requires c κs = search needs
-
-slice-aggregate-transcript : tie.Need-slice-aggregate-transcript
-slice-aggregate-transcript c = search needs
-
-slice-aggregate-transcript-2 : tie.Need-slice-aggregate-transcript-2
-slice-aggregate-transcript-2 c = search needs
-
-transcript-requires : tie.Need-transcript-requires
-transcript-requires c κs = search needs
-
-same-length-2 : tie.Need-same-length-2
-same-length-2 c = search needs
-
 returns-3 : tie.Need-returns-3
 unfolding printedWithin printedOf
 returns-3 c =
@@ -67,17 +40,17 @@ pub drill-spec : {M : Type 1} → statement M
 drill-spec =
     tie.close
     (tie.spec
-    put-too-long-requires
-    same-length
+    (λ c κs. search needs)
+    (λ c. search needs)
     returns
     mul-if2
     add-if2
     returns-2
-    slice-aggregate-reset
-    slice-aggregate-reset-2
-    reset-requires
-    slice-aggregate-transcript
-    slice-aggregate-transcript-2
-    transcript-requires
-    same-length-2
+    (λ c. search needs)
+    (λ c. search needs)
+    (λ c κs. search needs)
+    (λ c. search needs)
+    (λ c. search needs)
+    (λ c κs. search needs)
+    (λ c. search needs)
     returns-3)

@@ -9,15 +9,6 @@ use Rattle.session.proofs.printing.put_too_long.Tie as tie
 returns : tie.Need-returns
 returns c = rw (lt-ltb _ _ (c .if1 .taken)) (record { buffer = refl; place = refl }, omega arith)
 
-slice-aggregate-put-text : tie.Need-slice-aggregate-put-text
-slice-aggregate-put-text c = search needs
-
-put-text-requires : tie.Need-put-text-requires
-put-text-requires c κs = search needs
-
-same-length : tie.Need-same-length
-same-length c = search needs
-
 returns-2 : tie.Need-returns-2
 returns-2 c =
     let p = c .before .before in
@@ -25,4 +16,4 @@ returns-2 c =
     rw (le-ltb _ 9 (t .if1 .left)) (p .put-text .ensures, omega (arith, p .put-text .ensures .place, t .if1 .left))
 
 pub put-too-long-spec : {M : Type 1} → statement M
-put-too-long-spec = tie.close (tie.spec returns slice-aggregate-put-text put-text-requires same-length returns-2)
+put-too-long-spec = tie.close (tie.spec returns (λ c. search needs) (λ c κs. search needs) (λ c. search needs) returns-2)

@@ -6,6 +6,7 @@ use mathlib.Core.Path.{_≡_, refl, ap, _∙_}
 use lib.ListN.{length}
 use Rattle.reader.specs.declared.Step.{Step}
 use Rattle.reader.specs.File.Laws.{next-bounds}
+use Rattle.session.specs.declared.turn.Acted.{Acted}
 use Rattle.session.specs.Session.Laws.{count-small}
 use Rattle.session.proofs.Loops.{Telling, start-telling, tell, end-telling}
 use Rattle.session.proofs.printing.transcript.Statement.{statement}
@@ -29,26 +30,20 @@ read-record-requires c κs = tt
 act-requires : tie.Need-act-requires Inv-loop μ-loop
 act-requires c κs = tt
 
-shown-requires : tie.Need-shown-requires Inv-loop μ-loop
-shown-requires c κs = tt
-
-add-count : tie.Need-add-count Inv-loop μ-loop
-add-count c = omega arith
-
 refusals-in-requires : tie.Need-refusals-in-requires Inv-loop μ-loop
 refusals-in-requires c κs = tt
 
 add-refused : tie.Need-add-refused Inv-loop μ-loop
-add-refused c = omega (arith, c .refusals-in .ensures, count-small (c .before .before .before .before .before .before .act .result))
+add-refused c = omega (arith, c .refusals-in .ensures, count-small (c .before .before .before .before .before .act .result .number))
 
 put-line-requires : tie.Need-put-line-requires Inv-loop μ-loop
 put-line-requires c κs =
-    let l = c .before .before .before .before .before .before .before .before .before .before .before in
+    let l = c .before .before .before .before .before .before .before .before .before .before in
     omega (arith, l .loop-test .taken, l .before .loop .inv .0, l .before .before .before .before .before .pre)
 
 loop-less : tie.Need-loop-less Inv-loop μ-loop
 loop-less c =
-    let r = c .before .before .before .before .before .before .before .before .before .before .before .before .before in
+    let r = c .before .before .before .before .before .before .before .before .before .before .before .before in
     let l = r .before .before in
     let e = ap (λ (z : Step). z .next) (r .read-record .ensures) in
     omega (arith, e, next-bounds (l .before .before .before .before .args .file .now) (l .loop .at) (r .before .loop-test .taken))
@@ -57,12 +52,11 @@ loop-again : tie.Need-loop-again Inv-loop μ-loop
 loop-again c =
     let w = c .before .before in
     let u = w .before .before in
-    let v = u .before in
-    let a = v .before .before .before .before .before in
+    let a = u .before .before .before .before .before in
     let r = a .before .before .before in
     let l = r .before .before in (
       tell _ _ _ _ (l .loop .inv .0) (r .before .loop-test .taken) (r .read-record .ensures)
-          (record { number-of = a .act .ensures .0; left = a .act .ensures .1; count = u .refusals-in .ensures }) (v .shown .ensures)
+          (record { number-of = ap (λ (x : Acted). x .number) (a .act .ensures .0); left = a .act .ensures .1; count = u .refusals-in .ensures }) (ap (λ (x : Acted). x .line) (a .act .ensures .0))
           (w .put-line .ensures .0) (w .put-line .ensures .1),
       (a .act .kept .1 .0 ∙ l .loop .inv .1 .0, a .act .kept .1 .1 .0 ∙ l .loop .inv .1 .1),
     )
@@ -100,8 +94,7 @@ transcript-spec =
     loop-holds
     read-record-requires
     act-requires
-    shown-requires
-    add-count
+    (λ c. omega arith)
     refusals-in-requires
     add-refused
     put-line-requires

@@ -5,6 +5,7 @@ use mathlib.Core.Path.{_≡_, refl, ap, _∙_}
 use lib.ListN.{length}
 use Rattle.reader.specs.declared.Step.{Step}
 use Rattle.reader.specs.File.Laws.{next-bounds}
+use Rattle.session.specs.declared.turn.Acted.{Acted}
 use Rattle.session.specs.Session.Laws.{count-small}
 use Rattle.session.proofs.Loops.{end, Answering, start-answering, answer, end-answering}
 use Rattle.session.proofs.running.carry_all.Statement.{statement}
@@ -30,14 +31,11 @@ act-requires c κs = tt
 keep-requires : tie.Need-keep-requires Inv-loop μ-loop
 keep-requires c κs = tt
 
-add-count : tie.Need-add-count Inv-loop μ-loop
-add-count c = omega arith
-
 refusals-in-requires : tie.Need-refusals-in-requires Inv-loop μ-loop
 refusals-in-requires c κs = tt
 
 add-refused : tie.Need-add-refused Inv-loop μ-loop
-add-refused c = omega (arith, c .refusals-in .ensures, count-small (c .before .before .before .before .before .before .before .before .act .result))
+add-refused c = omega (arith, c .refusals-in .ensures, count-small (c .before .before .before .before .before .before .before .before .act .result .number))
 
 loop-less : tie.Need-loop-less Inv-loop μ-loop
 loop-less c =
@@ -52,7 +50,7 @@ loop-again c =
     let r = a .before .before .before in
     let l = r .before .before in (
       answer _ _ _ _ (l .loop .inv .0) (r .before .loop-test .taken) (r .read-record .ensures)
-          (record { number-of = a .act .ensures .0; left = a .act .ensures .1; count = c .refusals-in .ensures }) (k .keep .ensures),
+          (record { number-of = ap (λ (x : Acted). x .number) (a .act .ensures .0); left = a .act .ensures .1; count = c .refusals-in .ensures }) (k .keep .ensures),
       (a .act .kept .1 .0 ∙ l .loop .inv .1 .0, a .act .kept .1 .1 .0 ∙ l .loop .inv .1 .1),
     )
 
@@ -80,7 +78,7 @@ carry-all-spec =
     read-record-requires
     act-requires
     keep-requires
-    add-count
+    (λ c. omega arith)
     refusals-in-requires
     add-refused
     loop-less

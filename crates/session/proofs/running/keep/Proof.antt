@@ -5,17 +5,8 @@ use borrow.Author.Needs.{needs}
 use Rattle.session.proofs.running.keep.Statement.{statement}
 use Rattle.session.proofs.running.keep.Tie as tie
 
-slice-write-answers : tie.Need-slice-write-answers
-slice-write-answers c = search needs
-
-same-length : tie.Need-same-length
-same-length c = search needs
-
-returns : tie.Need-returns
-returns c = search needs
-
 returns-2 : tie.Need-returns-2
 returns-2 c = sym (set-out _ _ _ (c .if1 .left))
 
 pub keep-spec : {M : Type 1} → statement M
-keep-spec = tie.close (tie.spec slice-write-answers same-length returns returns-2)
+keep-spec = tie.close (tie.spec (λ c. search needs) (λ c. search needs) (λ c. search needs) returns-2)

@@ -7,33 +7,12 @@ use borrow.Author.Needs.{needs}
 use Rattle.session.proofs.running.run.Statement.{statement}
 use Rattle.session.proofs.running.run.Tie as tie
 
-fitting-requires : tie.Need-fitting-requires
-fitting-requires c κs = search needs
-
-same-length : tie.Need-same-length
-same-length c = search needs
-
-same-length-2 : tie.Need-same-length-2
-same-length-2 c = search needs
-
 returns : tie.Need-returns
 unfolding endedOf leftOf answersOf
 returns c =
     let f = c .before in
     let e = sym (f .fitting .ensures) ∙ not-true _ (c .if1 .taken) in
     (rw e, (rw e, rw e))
-
-carry-all-requires : tie.Need-carry-all-requires
-carry-all-requires c κs = search needs
-
-same-length-3 : tie.Need-same-length-3
-same-length-3 c = search needs
-
-same-length-4 : tie.Need-same-length-4
-same-length-4 c = search needs
-
-same-length-5 : tie.Need-same-length-5
-same-length-5 c = search needs
 
 returns-2 : tie.Need-returns-2
 unfolding endedOf leftOf answersOf
@@ -48,12 +27,12 @@ pub run-spec : {M : Type 1} → statement M
 run-spec =
     tie.close
     (tie.spec
-    fitting-requires
-    same-length
-    same-length-2
+    (λ c κs. search needs)
+    (λ c. search needs)
+    (λ c. search needs)
     returns
-    carry-all-requires
-    same-length-3
-    same-length-4
-    same-length-5
+    (λ c κs. search needs)
+    (λ c. search needs)
+    (λ c. search needs)
+    (λ c. search needs)
     returns-2)

@@ -10,42 +10,6 @@ use Rattle.setup.proofs.handing.hand_on.Tie as tie
 returns : tie.Need-returns
 returns c = let a = c .before .before .before .args in too-long (a .file .now) (a .out .now) (omega (arith, c .if1 .taken))
 
-slice-aggregate-reset : tie.Need-slice-aggregate-reset
-slice-aggregate-reset c = search needs
-
-slice-aggregate-reset-2 : tie.Need-slice-aggregate-reset-2
-slice-aggregate-reset-2 c = search needs
-
-reset-requires : tie.Need-reset-requires
-reset-requires c κs = search needs
-
-slice-aggregate-run : tie.Need-slice-aggregate-run
-slice-aggregate-run c = search needs
-
-slice-aggregate-run-2 : tie.Need-slice-aggregate-run-2
-slice-aggregate-run-2 c = search needs
-
-slice-aggregate-run-3 : tie.Need-slice-aggregate-run-3
-slice-aggregate-run-3 c = search needs
-
-run-requires : tie.Need-run-requires
-run-requires c κs = search needs
-
-slice-aggregate-write-setup : tie.Need-slice-aggregate-write-setup
-slice-aggregate-write-setup c = search needs
-
-write-setup-requires : tie.Need-write-setup-requires
-write-setup-requires c κs = search needs
-
-enum-known-wrote : tie.Need-enum-known-wrote
-enum-known-wrote c = search needs
-
-enum-told : tie.Need-enum-told
-enum-told c = search needs
-
-same-length : tie.Need-same-length
-same-length c = search needs
-
 -- the writer's answer and the room behind it
 done : (w : tie.After-write-setup) → let a = w .before .before .before .before .before .before .before .before .before .before .before .before .before .before .before .before .before .before .args in
     Handed (a .file .now) (a .out .now) (w .write-setup .result) (w .write-setup .last .1 .0)
@@ -61,9 +25,6 @@ done w =
 returns-2 : tie.Need-returns-2
 returns-2 c = written _ _ _ (done (c .before .before .before .before .before)) _ (c .before .wrote .given .1)
 
-same-length-2 : tie.Need-same-length-2
-same-length-2 c = search needs
-
 returns-3 : tie.Need-returns-3
 returns-3 c = absurd (never _ _ _ (done (c .before .before .before .before)) _ (c .enum-told .given .1))
 
@@ -72,18 +33,18 @@ hand-on-spec =
     tie.close
     (tie.spec
     returns
-    slice-aggregate-reset
-    slice-aggregate-reset-2
-    reset-requires
-    slice-aggregate-run
-    slice-aggregate-run-2
-    slice-aggregate-run-3
-    run-requires
-    slice-aggregate-write-setup
-    write-setup-requires
-    enum-known-wrote
-    enum-told
-    same-length
+    (λ c. search needs)
+    (λ c. search needs)
+    (λ c κs. search needs)
+    (λ c. search needs)
+    (λ c. search needs)
+    (λ c. search needs)
+    (λ c κs. search needs)
+    (λ c. search needs)
+    (λ c κs. search needs)
+    (λ c. search needs)
+    (λ c. search needs)
+    (λ c. search needs)
     returns-2
-    same-length-2
+    (λ c. search needs)
     returns-3)

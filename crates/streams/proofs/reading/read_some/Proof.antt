@@ -5,18 +5,6 @@ use Rattle.streams.specs.Steps.Laws.{within}
 use Rattle.streams.proofs.reading.read_some.Statement.{statement}
 use Rattle.streams.proofs.reading.read_some.Tie as tie
 
-read-requires : tie.Need-read-requires
-read-requires c κs = search needs
-
-errno-requires : tie.Need-errno-requires
-errno-requires c κs = search needs
-
-step-of-requires : tie.Need-step-of-requires
-step-of-requires c κs = search needs
-
-same-length : tie.Need-same-length
-same-length c = search needs
-
 returns : tie.Need-returns
 returns c =
     let r = c .before .before .before .before in
@@ -25,4 +13,4 @@ returns c =
 
 pub read-some-spec : {M : Type 1} → statement M
 read-some-spec =
-    tie.close (tie.spec read-requires errno-requires step-of-requires same-length returns)
+    tie.close (tie.spec (λ c κs. search needs) (λ c κs. search needs) (λ c κs. search needs) (λ c. search needs) returns)

@@ -11,7 +11,7 @@ use mir.Syntax.{Width, w32, w64}
 use mir.Val.{Fits, SFits, toZ, ofZ}
 use mir.Facts.{toZ-ofZ}
 use Rattle.streams.specs.declared.steps.Step.the-variants.{Moved, Failed}
-use Rattle.streams.specs.Steps.{stepOf, failedWith}
+use Rattle.streams.specs.Steps.{outcomeOf, failedWith}
 use Rattle.streams.proofs.steps.step_of.Statement.{statement}
 use Rattle.streams.proofs.steps.step_of.Tie as tie
 
@@ -26,16 +26,16 @@ above : (z : ℤ) → SFits w64 z → ltZ (pos 0) z ≡ true → T (nonNeg z) ×
 above (pos n) f h = (tt, record { fits = omega (arith, f .sfits) })
 above (negsuc n) f h = absurd (subst T (sym h) tt)
 
-moves : (z e : ℤ) → ltZ (pos 0) z ≡ true → Moved (natAbs z) ≡ stepOf z e
-unfolding stepOf
+moves : (z e : ℤ) → ltZ (pos 0) z ≡ true → Moved (natAbs z) ≡ outcomeOf z e
+unfolding outcomeOf
 moves (pos zero) e h = absurd (subst T (sym h) tt)
 moves (pos (suc n)) e h = refl
 moves (negsuc n) e h = absurd (subst T (sym h) tt)
 
 -- ---- an answer below 0
 
-fails : (z e : ℤ) → ltZ (pos 0) z ≡ false → (z ≡ pos 0 → ⊥) → failedWith e ≡ stepOf z e
-unfolding stepOf
+fails : (z e : ℤ) → ltZ (pos 0) z ≡ false → (z ≡ pos 0 → ⊥) → failedWith e ≡ outcomeOf z e
+unfolding outcomeOf
 fails (pos zero) e h k = absurd (k refl)
 fails (pos (suc n)) e h k = absurd (omega (arith, ltb-false 0 (suc n) h))
 fails (negsuc n) e h k = refl
@@ -58,7 +58,7 @@ returns c =
     rw (toZ-ofZ f) (moves (c .before .args .moved) (c .before .args .error) (rw (toZ-ofZ f) at (c .if1 .taken)))
 
 returns-2 : tie.Need-returns-2
-unfolding stepOf
+unfolding outcomeOf
 returns-2 c = rw (same w64 0 (c .before .before .fits .moved) (c .if2 .taken))
 
 returns-3 : tie.Need-returns-3

@@ -24,24 +24,6 @@ bounds c =
     let m = moved _ _ (c .before .step .given .1) (c .before .before .before .write-some .ensures) in
     omega arith
 
-loop-holds : tie.Need-loop-holds Inv-loop μ-loop
-loop-holds c = search needs
-
-sub-write-some : tie.Need-sub-write-some Inv-loop μ-loop
-sub-write-some c = search needs
-
-part-write-some-start : tie.Need-part-write-some-start Inv-loop μ-loop
-part-write-some-start c = search needs
-
-part-write-some-end : tie.Need-part-write-some-end Inv-loop μ-loop
-part-write-some-end c = search needs
-
-write-some-requires : tie.Need-write-some-requires Inv-loop μ-loop
-write-some-requires c κs = search needs
-
-enum-known-step : tie.Need-enum-known-step Inv-loop μ-loop
-enum-known-step c = search needs
-
 add-done : tie.Need-add-done Inv-loop μ-loop
 add-done c = omega (arith, bounds c)
 
@@ -51,44 +33,14 @@ loop-less c = omega (arith, bounds c)
 loop-again : tie.Need-loop-again Inv-loop μ-loop
 loop-again c = omega (arith, bounds c)
 
-enum-told : tie.Need-enum-told Inv-loop μ-loop
-enum-told c = search needs
-
 returns : tie.Need-returns Inv-loop μ-loop
 returns c empty = absurd (omega arith)
-
-sub-tries : tie.Need-sub-tries Inv-loop μ-loop
-sub-tries c = search needs
-
-loop-less-2 : tie.Need-loop-less-2 Inv-loop μ-loop
-loop-less-2 c = search needs
-
-loop-again-2 : tie.Need-loop-again-2 Inv-loop μ-loop
-loop-again-2 c = search needs
-
-enum-told-2 : tie.Need-enum-told-2 Inv-loop μ-loop
-enum-told-2 c = search needs
 
 returns-2 : tie.Need-returns-2 Inv-loop μ-loop
 returns-2 c empty = absurd (omega arith)
 
-sub-tries-2 : tie.Need-sub-tries-2 Inv-loop μ-loop
-sub-tries-2 c = search needs
-
-loop-less-3 : tie.Need-loop-less-3 Inv-loop μ-loop
-loop-less-3 c = search needs
-
-loop-again-3 : tie.Need-loop-again-3 Inv-loop μ-loop
-loop-again-3 c = search needs
-
-enum-told-3 : tie.Need-enum-told-3 Inv-loop μ-loop
-enum-told-3 c = search needs
-
 returns-3 : tie.Need-returns-3 Inv-loop μ-loop
 returns-3 c empty = absurd (omega arith)
-
-returns-4 : tie.Need-returns-4 Inv-loop μ-loop
-returns-4 c = search needs
 
 pub write-whole-spec : {M : Type 1} → statement M
 write-whole-spec =
@@ -96,25 +48,25 @@ write-whole-spec =
     (tie.spec
     Inv-loop
     μ-loop
-    loop-holds
-    sub-write-some
-    part-write-some-start
-    part-write-some-end
-    write-some-requires
-    enum-known-step
+    (λ c. search needs)
+    (λ c. search needs)
+    (λ c. search needs)
+    (λ c. search needs)
+    (λ c κs. search needs)
+    (λ c. search needs)
     add-done
     loop-less
     loop-again
-    enum-told
+    (λ c. search needs)
     returns
-    sub-tries
-    loop-less-2
-    loop-again-2
-    enum-told-2
+    (λ c. search needs)
+    (λ c. search needs)
+    (λ c. search needs)
+    (λ c. search needs)
     returns-2
-    sub-tries-2
-    loop-less-3
-    loop-again-3
-    enum-told-3
+    (λ c. search needs)
+    (λ c. search needs)
+    (λ c. search needs)
+    (λ c. search needs)
     returns-3
-    returns-4)
+    (λ c. search needs))

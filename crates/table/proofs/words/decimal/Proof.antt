@@ -7,24 +7,6 @@ use Rattle.table.specs.Words.{bcd}
 use Rattle.table.proofs.words.decimal.Statement.{statement}
 use Rattle.table.proofs.words.decimal.Tie as tie
 
-mul-result : tie.Need-mul-result
-mul-result c = search needs
-
-sub-result : tie.Need-sub-result
-sub-result c = search needs
-
-mul-result-2 : tie.Need-mul-result-2
-mul-result-2 c = search needs
-
-sub-result-2 : tie.Need-sub-result-2
-sub-result-2 c = search needs
-
-mul-result-3 : tie.Need-mul-result-3
-mul-result-3 c = search needs
-
-sub-result-3 : tie.Need-sub-result-3
-sub-result-3 c = search needs
-
 -- a word by its digits, from the lowest place up
 places : (w a b c p q r : ℕ) → w ≡ 16 * a + p → a ≡ 16 * b + q → b ≡ 16 * c + r → w - 6 * a - 60 * b - 600 * c ≡ c * 1000 + r * 100 + q * 10 + p
 places w a b c p q r e f g = omega arith
@@ -50,4 +32,4 @@ returns c =
 pub decimal-spec : {M : Type 1} → statement M
 decimal-spec =
     tie.close
-    (tie.spec mul-result sub-result mul-result-2 sub-result-2 mul-result-3 sub-result-3 returns)
+    (tie.spec (λ c. search needs) (λ c. search needs) (λ c. search needs) (λ c. search needs) (λ c. search needs) (λ c. search needs) returns)

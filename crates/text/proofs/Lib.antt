@@ -1,0 +1,2 @@
+-- Digits computed of the definitions.
+pub mod Examples
