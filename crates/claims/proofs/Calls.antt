@@ -27,7 +27,7 @@ use Rattle.kexbardi.specs.Interface.{lineLeft}
 use Rattle.kexbardi_profiles.specs.Told.{toldBy}
 use Rattle.setups.specs.Setup.{setupOf, setupAnswer, setupLeft}
 use Rattle.kexbardi_files.specs.Files.{filled, setupFilled}
-use Rattle.claims.specs.Formats.{wordOf}
+use Rattle.claims.specs.Words.{wordOf}
 use Rattle.claims.specs.Calls.{answers, Answered, Reserved, Called}
 
 -- ---- what a sample reads

@@ -42,7 +42,7 @@ use Rattle.desk.specs.Desk.{Desk, fittingOf, noLoop, readingAt, sampleCases, sa
 use Rattle.desk.specs.Lists.{answerTo}
 use Rattle.session.specs.Session.{numberFor, State, begun, after, runOf, answersFor, answersOf}
 use Rattle.claims.specs.Calls.{transferAt, majorAt}
-use Rattle.claims.specs.Formats.{wordOf, inputFull, outputFull}
+use Rattle.claims.specs.Words.{wordOf, inputFull, outputFull}
 use Rattle.claims.specs.Causes.{modeCarried, InCascade, Transferring, Receives, Tabled, tableWord, InTable, wrongDigit, wrongMode, wrongTime, wrongLimit, wrongSetpoint, sampleRows, Ordered}
 use Rattle.claims.proofs.Calls.{by-words, forecasts}
 

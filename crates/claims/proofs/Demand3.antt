@@ -26,7 +26,7 @@ use Rattle.kexbardi_files.specs.Files.{Ran}
 use Rattle.claims.specs.Turns.{Made, one, file, Turn, found, numberTo, madeLeft, behind, behindAll, fedMade, fedAll}
 use Rattle.claims.proofs.Turns.{unfit-behind, record-found, record-behind}
 use Rattle.claims.proofs.Demand1.{demand-1}
-use Rattle.claims.specs.Demand3.{Claimed, Counted, Demand3}
+use Rattle.claims.specs.Demand3.{Claimed, Counting, Demand3}
 
 -- what is claimed of a call, of each loop
 abbrev ClaimedAll : Plains → Desk → Made → Type 0
@@ -98,7 +98,7 @@ module _ (q : Plain) (r : Reading) (raw : ℕ) where
   going zero = (λ _. refl, λ h. absurd (omega arith))
   going (suc n) = (λ e. absurd (omega (arith, e)), λ h. omega arith)
 
-  count-after : Counted q r raw
+  count-after : Counting q r raw
   unfolding countAfter
   count-after = record {
     ended = λ e. count ∙ rw e;

@@ -40,7 +40,8 @@ use Rattle.engine.proofs.Limits.{word-inside}
 use Rattle.plain.specs.Plain.Laws.{start-tied, sample-good}
 use Rattle.desk.specs.Desk.{Desk, readingAt, sampleAnswer}
 use Rattle.desk.specs.Desk.Laws.{Sampled, sampled}
-use Rattle.claims.specs.Formats.{Conversion, wordOf, wordLeft, inputFull, outputFull, fullBy, outputCount, Formats}
+use Rattle.claims.specs.Formats.{Conversion, fullBy, outputCount, Formats}
+use Rattle.claims.specs.Words.{wordOf, wordLeft, inputFull, outputFull}
 use Rattle.claims.proofs.Calls.{by-words}
 use Rattle.claims.proofs.Demand2.{demand-2}
 

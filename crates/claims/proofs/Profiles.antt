@@ -32,7 +32,7 @@ use Rattle.engine.specs.Sensing.{setpointOf, targetOf, profiledOf, faultAfter, 
 use Rattle.engine.specs.Writing.{writtenOf, nextOf}
 use Rattle.engine.specs.Steps.{stepOf}
 use Rattle.desk.specs.Desk.{Desk, readingAt, stepAt}
-use Rattle.claims.specs.Formats.{wordOf}
+use Rattle.claims.specs.Words.{wordOf}
 use Rattle.claims.specs.Profiles.{Profiled}
 use Rattle.claims.proofs.Calls.{by-words}
 

@@ -21,7 +21,7 @@ use Rattle.engine.specs.Sensing.{sensedOf}
 use Rattle.engine.specs.Writing.{writtenOf}
 use Rattle.engine.specs.Steps.{stepOf}
 use Rattle.desk.specs.Desk.{Desk, memoryCases, loopCases, readingAt, sampleAnswer}
-use Rattle.claims.specs.Formats.{wordOf, wordLeft, inputFull}
+use Rattle.claims.specs.Words.{wordOf, wordLeft, inputFull}
 use Rattle.claims.specs.Roots.{Rooted}
 use Rattle.claims.proofs.Calls.{by-words}
 use Rattle.claims.proofs.Demand2.{demand-2}

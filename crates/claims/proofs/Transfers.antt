@@ -26,7 +26,7 @@ use Rattle.engine.specs.Steps.Laws.{entry-output}
 use Rattle.desk.specs.Desk.{Desk, readingAt, sampleAnswer, pvAt}
 use Rattle.desk.specs.Desk.Laws.{sampled}
 use Rattle.claims.specs.Calls.{transferAt}
-use Rattle.claims.specs.Formats.{wordOf, outputFull}
+use Rattle.claims.specs.Words.{wordOf, outputFull}
 use Rattle.claims.specs.Transfers.{Bumpless, Transferred}
 use Rattle.claims.proofs.Calls.{by-words}
 use Rattle.claims.proofs.Causes.{receives}

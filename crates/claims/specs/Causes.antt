@@ -18,7 +18,7 @@ use Rattle.carried.specs.Layout.{Rows, slotOf, numbersAt}
 use Rattle.desk.specs.Desk.{Desk, fittingOf, sampleAnswer, forecastAt, pvAt}
 use Rattle.session.specs.Session.{begun, runOf, answersOf}
 use Rattle.kexbardi_profiles.specs.Told.{toldBy}
-use Rattle.claims.specs.Formats.{wordOf, inputFull, outputFull}
+use Rattle.claims.specs.Words.{wordOf, inputFull, outputFull}
 
 -- ---- modes
 

@@ -25,7 +25,7 @@ Claimed k qs d (file bytes) =
     numberTo d (file bytes) ≡ 0 → let calls = callsOf (recordsOf bytes) in Holds k qs d calls × (leftOf bytes d ≡ deskBehind d calls)
 
 -- E4: n after an accepted sample: Manual, freeze and velocity form end the count, an entry begins it, and one that has begun goes on
-pub record Counted (q : Plain) (r : Reading) (p : ℕ) : Type 0 where
+pub record Counting (q : Plain) (r : Reading) (p : ℕ) : Type 0 where
   pub ended : (isManual (r .mode) || r .settings .mode1 .freeze || r .settings .mode1 .velocity) ≡ true → plainAfter q r p .n ≡ 0
   pub begins : (isManual (r .mode) || r .settings .mode1 .freeze || r .settings .mode1 .velocity) ≡ false
       → (sensedOf r (q .state) p .entry ≡ true → plainAfter q r p .n ≡ 1)
@@ -35,7 +35,7 @@ pub record Demand3 : Type 0 where
   -- behind any turns, of the next one
   pub accurate : (d : Desk) (before : List Turn) (t : Turn) (k : ℕ) → 1 ≤ k → k ≤ 16
       → Claimed k (fedAll (begunAll (d .numbers)) d before) (found (behindAll d before) t) (t .made)
-  pub counted : (q : Plain) (r : Reading) (p : ℕ) → Counted q r p
+  pub counted : (q : Plain) (r : Reading) (p : ℕ) → Counting q r p
   -- E6: 1/2 + (n + 1)/262,144 of a count, which is at most one count while n is at most 131,071
   pub tolerated : (n : ℕ) → tolerance n ≡ over (pos 1) 2 +ᶠ over (pos (n + 1)) 262144
   pub one-count : (n : ℕ) → n ≤ 131071 → tolerance n ≤ᶠ whole (pos 1)

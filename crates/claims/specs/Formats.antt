@@ -6,12 +6,11 @@ use mathlib.Core.Path.{_≡_}
 use mathlib.Core.Bool.{Bool, true, false, cond, not, _&&_}
 use lib.Dec.{ltb, eqb}
 use lib.IntN.{natAbs}
-use lib.ListN.{getD}
 use Rattle.numbers.specs.Distances.{apart}
 use Rattle.numbers.specs.Scales.{converted}
 use Rattle.refusals.specs.Refusals.{numberOf}
 use Rattle.reading.specs.declared.reading.Reading.{Reading}
-use Rattle.table.specs.Words.{bit, baseOf}
+use Rattle.table.specs.Words.{bit}
 use Rattle.table.specs.Modes.{isManual}
 use Rattle.control.specs.Counts.{outputCounts}
 use Rattle.carried.specs.declared.record.Carried.{Carried}
@@ -21,7 +20,8 @@ use Rattle.engine.specs.Steps.{stepOf}
 use Rattle.engine.specs.Premises.{Usable}
 use Rattle.plain.specs.Plain.{Plain, begun, plainAfter}
 use Rattle.plain.specs.Plain.Laws.{Tied, Good}
-use Rattle.desk.specs.Desk.{Desk, readingAt, stepAt, sampleAnswer, sampleLeft}
+use Rattle.desk.specs.Desk.{Desk, readingAt, stepAt, sampleAnswer}
+use Rattle.claims.specs.Words.{wordOf, wordLeft, inputFull, outputFull}
 
 -- M7: a count v of full scale F converted to full scale G, F and G any two above 0
 pub record Conversion (F G : ℕ) : Type 0 where
@@ -35,20 +35,7 @@ pub record Conversion (F G : ℕ) : Type 0 where
   -- a higher count never gives less
   pub order : (v w : ℕ) → v ≤ w → converted F G v ≤ converted F G w
 
--- word i of loop k, and as a sample leaves it
-abbrev pub wordOf : Desk → ℕ → ℕ → ℕ
-wordOf d k i = getD (d .words) (baseOf k + i) 0
-
-abbrev pub wordLeft : Desk → ℕ → ℕ → ℕ → ℕ
-wordLeft d k raw i = wordOf (sampleLeft d k raw) k i
-
--- M3: F and G of loop k, and a full scale by its two bits. M7: a count of its input in counts of its output
-abbrev pub inputFull : Desk → ℕ → ℕ
-inputFull d k = readingAt d k .settings .mode2 .input .scale
-
-abbrev pub outputFull : Desk → ℕ → ℕ
-outputFull d k = readingAt d k .settings .mode2 .output .scale
-
+-- M3: a full scale by its two bits. M7: a count of a loop's input in counts of its output
 abbrev pub fullBy : Bool → Bool → ℕ
 fullBy sixteen fifteen = cond sixteen 65535 (cond fifteen 32767 4095)
 

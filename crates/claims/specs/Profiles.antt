@@ -19,7 +19,7 @@ use Rattle.profile.specs.Forecasts.{forecastOf}
 use Rattle.carried.specs.Layout.{carriedAt}
 use Rattle.engine.specs.Sensing.{runsOn}
 use Rattle.desk.specs.Desk.{Desk, readingAt, stepAt}
-use Rattle.claims.specs.Formats.{wordOf}
+use Rattle.claims.specs.Words.{wordOf}
 
 pub record Profiled : Type 0 where
   -- G3: in Cascade words 27 and 29 and the profile stay
@@ -38,7 +38,7 @@ pub record Profiled : Type 0 where
   pub tells : (d : Desk) (k raw : ℕ) → isCascade (readingAt d k .mode) ≡ false → let s = stepAt d k raw in
       (s .written .flags % 16 ≡ 0) × (s .written .flags / 256 ≡ s .carried .state .profile .segment)
       × (bit 5 (s .written .flags) ≡ true → readingAt d k .program .pair .deviation < apart (s .written .setpoint) (s .written .pv))
-  -- G6: a sample with a command or a hold moves nothing and counts no time
+  -- G6: where a command is given, or the profile is held, the setpoint stays, and the time is no higher
   pub still : (program : Program) (q : Profile) (flags period setpoint : ℕ) → (q .hold ≡ true) ⊎ (commandOf flags ≡ Nothing → ⊥)
       → let m = advancedBy program flags period q setpoint in (m .setpoint ≡ setpoint) × (m .profile .time ≤ q .time)
   -- G10: a soak that a sample comes to stands in the pair whose deviation was read

@@ -6,7 +6,7 @@ use Rattle.numbers.specs.Roots.{Nearest}
 use Rattle.refusals.specs.Refusals.{numberOf}
 use Rattle.table.specs.Words.{bit}
 use Rattle.desk.specs.Desk.{Desk, sampleAnswer}
-use Rattle.claims.specs.Formats.{wordOf, wordLeft, inputFull}
+use Rattle.claims.specs.Words.{wordOf, wordLeft, inputFull}
 
 pub record Rooted : Type 0 where
   -- word 3 is nearest to the exact root; with bit 6 off it is the raw PV

@@ -17,7 +17,7 @@ use Rattle.carried.specs.Layout.{carriedAt, marked}
 use Rattle.engine.specs.Sensing.{sensedOf}
 use Rattle.desk.specs.Desk.{Desk, readingAt, stepAt, sampleAnswer, sampleLeft, pvAt}
 use Rattle.claims.specs.Calls.{transferAt, majorAt}
-use Rattle.claims.specs.Formats.{wordOf, wordLeft}
+use Rattle.claims.specs.Words.{wordOf, wordLeft}
 
 -- A13: the carried mode, the sample's mode, and bit 3 of mode 1
 pub record Bumpless (d : Desk) (k : ℕ) : Type 0 where
