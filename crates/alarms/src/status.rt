@@ -10,7 +10,7 @@ use reading::{AlarmLimits, Mode1, OutputLimits};
 use table::{Mode, is_manual};
 
 // What the status word tells of one sample.
-#[derive(Drop)]
+#[derive(Clone, Copy)]
 pub struct Seen {
     pub pv: u16,
     pub setpoint: u16,

@@ -1,5 +1,7 @@
 // What a loop carries from sample to sample: the record, its ranges, and its numbers in the buffer that
 // the caller lends.
+#![tactic(auto)]
+
 mod former;
 mod layout;
 mod record;

@@ -5,7 +5,7 @@ use table::Mode;
 
 // What A2, A4 and the profile (G4 to G11) read of the samples before, and the mark of another loop's transfer (A13).
 // The plain loop (E3) holds it as well.
-#[derive(Drop)]
+#[derive(Clone, Copy)]
 pub struct State {
     pub mode: Mode,
     pub velocity: bool, // the last form: velocity, else position
@@ -14,14 +14,14 @@ pub struct State {
 }
 
 // The recorded PVs and error. `prior` is the PV before the last.
-#[derive(Drop)]
+#[derive(Clone, Copy)]
 pub struct Past {
     pub last: u16,
     pub prior: u16,
     pub error: i64,
 }
 
-#[derive(Drop)]
+#[derive(Clone, Copy)]
 pub struct Carried {
     pub state: State,
     pub drive: Drive,

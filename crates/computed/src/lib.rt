@@ -1,1 +1,2 @@
 // Tables of computed cases: definitions alone, no code.
+#![tactic(auto)]

@@ -6,7 +6,7 @@ ghost use Rattle.control.specs.Premises.{Ready};
 use crate::terms::Terms;
 
 // The carried bias and output, in units.
-#[derive(Drop)]
+#[derive(Clone, Copy)]
 pub struct Drive {
     pub bias: i64,
     pub output: i64,

@@ -1,5 +1,7 @@
 // One sample's numbers on plain values: counts of the output, the error, the three terms, and the position and
 // velocity forms. Units are 1/262,144 of a count.
+#![tactic(auto)]
+
 mod counts;
 mod errors;
 mod forms;

@@ -8,7 +8,7 @@ use reading::Tuning;
 
 // What each term acts on: in position form the error, the error and the PV's change; in velocity
 // form their differences from the sample before, but for the integral.
-#[derive(Drop)]
+#[derive(Clone, Copy)]
 pub struct Inputs {
     pub p: i64,
     pub i: i64,
@@ -16,7 +16,7 @@ pub struct Inputs {
 }
 
 // The terms, in units.
-#[derive(Drop)]
+#[derive(Clone, Copy)]
 pub struct Terms {
     pub p: i64,
     pub i: i64,

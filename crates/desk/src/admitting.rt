@@ -11,14 +11,14 @@ use reading::{Reading, read_loop};
 use refusals::{Answer, Refusal};
 
 // The loop's record, what was read of the words, and the PV.
-#[derive(Drop)]
+#[derive(Clone, Copy)]
 pub struct Admitted {
     pub carried: Carried,
     pub reading: Reading,
     pub pv: u16,
 }
 
-#[derive(Drop)]
+#[derive(Clone, Copy)]
 pub enum Admission {
     Refused(Refusal),
     Sample(Admitted),

@@ -11,7 +11,7 @@ use reading::table_at;
 use refusals::Refusal;
 use table::{PROFILE_TABLE, base_of, word_at};
 
-#[derive(Drop)]
+#[derive(Clone, Copy)]
 pub enum Foretold {
     Refused(Refusal),
     Samples(u64),

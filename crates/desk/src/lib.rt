@@ -3,6 +3,8 @@
 // A desk is memory that the caller lends: the words of the loops' tables, and the numbers of the loops'
 // carried records. Both may hold anything; a call that is refused leaves both as they were (Q8). A loop's
 // number, an address and a raw PV may be any 64-bit number: each is tested before it is narrowed (Q7).
+#![tactic(auto)]
+
 mod admitting;
 mod forecasting;
 mod memory;

@@ -11,7 +11,7 @@ use refusals::Refusal;
 use table::{OUTPUT, base_of};
 
 // What is shown of a loop: words 2, 3, 5 and 6.
-#[derive(Drop)]
+#[derive(Clone, Copy)]
 pub struct Line {
     pub setpoint: u16,
     pub pv: u16,
@@ -19,7 +19,7 @@ pub struct Line {
     pub status: u16,
 }
 
-#[derive(Drop)]
+#[derive(Clone, Copy)]
 pub enum Sampled {
     Refused(Refusal),
     Shown(Line),

@@ -1,4 +1,6 @@
 // The program `drill` (L12): carries out a drill file and prints what `session::drill` writes of it.
+#![tactic(auto)]
+
 use programs::Asked;
 
 // The lines of a drill file.

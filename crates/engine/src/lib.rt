@@ -1,4 +1,6 @@
 // The engine: one accepted sample (A2 to A12) of one loop, on what it read, its PV and the loop's carried record.
+#![tactic(auto)]
+
 mod driving;
 mod sensing;
 mod stepping;

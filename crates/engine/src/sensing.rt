@@ -12,7 +12,7 @@ use table::{Mode, is_automatic, is_cascade, is_manual};
 
 // PV and setpoint, in counts of the input; the PV converted to counts of the output (M7), in which the error is;
 // whether the sample is an entry; words 27 and 29; and the loop's state after it.
-#[derive(Drop)]
+#[derive(Clone, Copy)]
 pub struct Sensed {
     pub pv: u16,
     pub converted: u16,

@@ -10,7 +10,7 @@ use crate::writing::{Written, next_record, words_after};
 use carried::Carried;
 use reading::Reading;
 
-#[derive(Drop)]
+#[derive(Clone, Copy)]
 pub struct Stepped {
     pub written: Written,
     pub carried: Carried,

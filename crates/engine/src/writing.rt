@@ -12,7 +12,7 @@ use reading::Reading;
 use table::{BIAS, MODE_1, OUTPUT, PROFILE_FAULT, PROFILE_FLAGS, PV, SETPOINT, STATUS, is_manual};
 
 // A12: the words that a sample writes: 0, 2, 3, 4, 5, 6, 27 and 29.
-#[derive(Drop)]
+#[derive(Clone, Copy)]
 pub struct Written {
     pub word: u16,
     pub setpoint: u16,

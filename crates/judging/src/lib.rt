@@ -1,5 +1,7 @@
 // Whether a sample is accepted, by what it read of the words and its raw PV: N7, N8, N12, N13, N14 and N9, in this order
 // (O3); and N11, by its PV.
+#![tactic(auto)]
+
 ghost use Rattle.std.specs.Prelude.{◌≡◌, ltb};
 ghost use Rattle.refusals.specs.Refusals.{first_of};
 ghost use Rattle.judging.specs.Judging.{bad_modes, bad_times, bad_limits, bad_setpoint, setting_cases, bad_major};

@@ -4,6 +4,8 @@
 // Every function works on memory that the caller lends and keeps nothing between calls. It answers 0,
 // or the number of the refusal; a refusal leaves all lent memory as it was. A `&[T]` is a pointer and
 // then a length for a C caller, a `&mut [T; N]` a pointer.
+#![tactic(auto)]
+
 ghost use Rattle.std.specs.Prelude.{◌≡◌};
 ghost use Rattle.refusals.specs.Refusals.{number_of};
 ghost use Rattle.desk.specs.Desk.{lent, reset_answer, reset_left, store_answer, store_left, sample_answer, sample_left, fields_answer, fields_left};

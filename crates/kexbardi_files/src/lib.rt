@@ -2,6 +2,8 @@
 // desk's words.
 // include/kexbardi.h declares it. It is an object of its own in the archive, so that a program that only
 // samples links none of it.
+#![tactic(auto)]
+
 ghost use Rattle.std.specs.Prelude.{◌≡◌, ◌≤◌, length};
 ghost use Rattle.desk.specs.Desk.{lent};
 ghost use Rattle.session.specs.Session.{ended_of, left_of};

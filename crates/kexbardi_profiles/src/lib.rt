@@ -1,6 +1,8 @@
 // The C interface on profiles (Q11): the forecast of a loop's profile. include/kexbardi.h declares it.
 //
 // A library of its own, so that the compiler can put all of a sample into `kexbardi_sample`.
+#![tactic(auto)]
+
 ghost use Rattle.std.specs.Prelude.{◌≡◌};
 ghost use Rattle.desk.specs.Desk.{lent, forecast_at};
 ghost use Rattle.kexbardi_profiles.specs.Told.{told, told_by};

@@ -1,6 +1,8 @@
 // The lines that the program `drill` prints (L9, L10), written into a lent buffer.
 //
 // Each function writes its text at a place and answers the place behind it.
+#![tactic(auto)]
+
 ghost use Rattle.std.specs.Prelude.{◌++◌, ◌+◌, ◌≤◌, ◌<◌, length};
 ghost use Rattle.text.specs.Text.{Written, hex_of};
 ghost use Rattle.lines.specs.Lines.{field_text, set_text, loop_text, accepted_text, said_text, line_text, last_text};

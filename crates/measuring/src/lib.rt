@@ -1,4 +1,6 @@
 // A1: the PV of a sample, measured from its raw PV.
+#![tactic(auto)]
+
 ghost use Rattle.std.specs.Prelude.{◌≡◌};
 ghost use Rattle.measuring.specs.Measuring.{pv_of, measured_of};
 

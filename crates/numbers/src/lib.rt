@@ -3,6 +3,8 @@
 // Each function's result is a formula over whole numbers, stated with the definitions of specs/.
 // A `requires` is a bound on the arguments; callers show it by the laws that stand beside the
 // definitions, and `proofs/Machine` has the step from a bound to the range of 64 bits.
+#![tactic(auto)]
+
 mod distances;
 mod limits;
 mod roots;

@@ -1,4 +1,6 @@
 // The ramp/soak profile of a loop on plain values: its commands, one sample of it, word 27, and the forecast.
+#![tactic(auto)]
+
 mod flags;
 mod forecasting;
 mod moves;

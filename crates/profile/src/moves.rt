@@ -11,7 +11,7 @@ pub(crate) const PARTS: u32 = 10000; // of a count
 
 pub(crate) const TENTH_OF_A_MINUTE: u32 = 600; // hundredths of a second
 
-#[derive(Drop)]
+#[derive(Clone, Copy)]
 pub enum Command {
     Start,
     Hold,

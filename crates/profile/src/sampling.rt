@@ -8,7 +8,7 @@ use crate::moves::{command_of, ended, worked};
 use crate::state::Profile;
 use reading::Program;
 
-#[derive(Drop)]
+#[derive(Clone, Copy)]
 pub struct Profiled {
     pub profile: Profile,
     pub setpoint: u16,

@@ -2,6 +2,8 @@
 // output, and failures, each told in one line on standard error.
 //
 // The language has no exit status, so that line is the only sign of a failure.
+#![tactic(auto)]
+
 mod asking;
 mod names;
 mod telling;

@@ -2,13 +2,15 @@
 //
 // A file is any list of bytes. Each record is its length, the number of bytes behind it, its kind
 // and its body. A reader starts at position 0 and goes on at `next` until the end of the file.
+#![tactic(auto)]
+
 ghost use Rattle.std.specs.Prelude.{◌≡◌, ◌+◌, ◌*◌, ◌-◌, ◌≤◌, length};
 ghost use Rattle.reader.specs.File.{word_at, store_at, sample_at, whole_at, record_at};
 
 use refusals::Refusal;
 
 // A store of an address and a value, a sample of a loop and a raw PV, or a refusal.
-#[derive(Drop)]
+#[derive(Clone, Copy)]
 pub enum Record {
     Store(u16, u16),
     Sample(u8, u16),
@@ -16,7 +18,7 @@ pub enum Record {
 }
 
 // A record, and the position behind it.
-#[derive(Drop)]
+#[derive(Clone, Copy)]
 pub struct Step {
     pub item: Record,
     pub next: usize,

@@ -2,6 +2,8 @@
 //
 // Everything goes through one function, `read_loop`: so a sample's answer depends on what that reads, and on nothing
 // else of the table.
+#![tactic(auto)]
+
 mod program;
 mod reading;
 mod settings;

@@ -9,7 +9,7 @@ use table::{
 };
 
 // A ramp and the soak behind it: segments 2i + 1 and 2i + 2.
-#[derive(Drop)]
+#[derive(Clone, Copy)]
 pub struct Pair {
     pub end: u16, // where the ramp ends, in counts
     pub slope: u16, // hundredths of a count a second
@@ -17,7 +17,7 @@ pub struct Pair {
     pub deviation: u16, // of the PV in the soak, in counts; 0 for none
 }
 
-#[derive(Drop)]
+#[derive(Clone, Copy)]
 pub struct Program {
     pub on: bool, // bit 11 is on and the pointer good
     pub fault: u16, // what word 29 becomes

@@ -10,7 +10,7 @@ use crate::transfer::{Major, read_major};
 use table::{LOOP_WORDS, Mode, PROFILE_TABLE, base_of, is_automatic, is_cascade, word_at};
 
 // What is read of the loop's past: its mode so far (A2, A13), and the carried segment (G1).
-#[derive(Drop)]
+#[derive(Clone, Copy)]
 pub struct Former {
     pub mode: Mode,
     pub segment: u8,
@@ -18,7 +18,7 @@ pub struct Former {
 
 // The loop's number and settings, the mode after the requests (A2), in Cascade the word that the setpoint
 // pointer names (A3; else 0), whether it is a transfer (A13) and its major loop, and the ramp/soak program (G1).
-#[derive(Drop)]
+#[derive(Clone, Copy)]
 pub struct Reading {
     pub number: u8,
     pub settings: Settings,

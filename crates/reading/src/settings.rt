@@ -9,7 +9,7 @@ use table::{
 };
 
 // M1: the bits of mode 1. Bit 15 has no use and stays as it is.
-#[derive(Drop)]
+#[derive(Clone, Copy)]
 pub struct Mode1 {
     pub manual: bool, // 0: Manual is requested
     pub automatic: bool, // 1: Automatic is requested
@@ -29,7 +29,7 @@ pub struct Mode1 {
 }
 
 // M2: the bits of mode 2. Bit 8 is ignored.
-#[derive(Drop)]
+#[derive(Clone, Copy)]
 pub struct Mode2 {
     pub input: Format, // 1 and 9: of PVs and setpoint
     pub output: Format, // 10, 12 and 13: of output, its limits, bias and error
@@ -39,7 +39,7 @@ pub struct Mode2 {
 }
 
 // W3: the BCD words, in hundredths: of a second, for the reset time by M2 of a minute, for the gain of 1.
-#[derive(Drop)]
+#[derive(Clone, Copy)]
 pub struct Tuning {
     pub period: u16, // 7
     pub gain: u16, // 8
@@ -47,7 +47,7 @@ pub struct Tuning {
     pub rate: u16, // 10
 }
 
-#[derive(Drop)]
+#[derive(Clone, Copy)]
 pub struct AlarmLimits {
     pub lowlow: u16, // 11
     pub low: u16, // 12
@@ -59,14 +59,14 @@ pub struct AlarmLimits {
     pub hysteresis: u16, // 18
 }
 
-#[derive(Drop)]
+#[derive(Clone, Copy)]
 pub struct OutputLimits {
     pub low: u16, // 24
     pub high: u16, // 25
 }
 
 // The words that a sample writes, but for the PV, as they stood before it.
-#[derive(Drop)]
+#[derive(Clone, Copy)]
 pub struct Stored {
     pub word: u16, // 0, mode 1
     pub setpoint: u16, // 2
@@ -77,7 +77,7 @@ pub struct Stored {
     pub fault: u16, // 29
 }
 
-#[derive(Drop)]
+#[derive(Clone, Copy)]
 pub struct Settings {
     pub stored: Stored,
     pub mode1: Mode1,

@@ -5,7 +5,7 @@ ghost use Rattle.reading.specs.Transfers.{major_of, limits_at, major_in};
 use crate::settings::OutputLimits;
 use table::{FIRST_FREE, LOOP_WORDS, OUTPUT, OUTPUT_HIGH, OUTPUT_LOW, base_of, word_at};
 
-#[derive(Drop)]
+#[derive(Clone, Copy)]
 pub struct Major {
     pub number: u8, // 0 without a transfer, and where the pointer is no other loop's output word
     pub limits: OutputLimits,

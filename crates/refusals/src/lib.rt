@@ -1,5 +1,7 @@
 // Why a record of a drill file, or a call, is refused: one list of reasons for reader, engine, desk and setup,
 // with their numbers (N1 to N14).
+#![tactic(auto)]
+
 ghost use Rattle.std.specs.Prelude.{◌≡◌};
 ghost use Rattle.refusals.specs.Refusals.{number_of};
 
@@ -34,7 +36,7 @@ pub const SETTING_LIMITS: u8 = 13;
 
 pub const SETTING_SETPOINT: u8 = 14;
 
-#[derive(Drop)]
+#[derive(Clone, Copy)]
 pub enum Refusal {
     Cut, // N1: the file ends inside the record
     Kind, // N2: the record has no kind, or none that is known
@@ -53,7 +55,7 @@ pub enum Refusal {
     Transfer, // N11: a transfer without a major loop, or outside its output limits
 }
 
-#[derive(Drop)]
+#[derive(Clone, Copy)]
 pub enum Answer {
     Accepted,
     Refused(Refusal),

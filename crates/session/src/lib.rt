@@ -1,4 +1,6 @@
 // A drill file carried out on a desk, record by record (Q5), and what the program `drill` prints of it (Q6).
+#![tactic(auto)]
+
 mod printing;
 mod running;
 mod turn;

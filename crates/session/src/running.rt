@@ -10,13 +10,13 @@ use refusals::Refusal;
 
 // How a run ended: how many records were read, and how many of them refused; or the refusal that
 // ended it before anything was read.
-#[derive(Drop)]
+#[derive(Clone, Copy)]
 pub enum Ended {
     Counts(usize, usize),
     Stopped(Refusal),
 }
 
-#[derive(Drop)]
+#[derive(Clone, Copy)]
 pub struct Totals {
     pub count: usize,
     pub refused: usize,

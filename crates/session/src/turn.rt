@@ -8,7 +8,7 @@ use reader::Record;
 use refusals::{Answer, number_of};
 
 // The number of its answer, 0 where it was carried out, else that of the refusal; and of such a sample what is shown.
-#[derive(Drop)]
+#[derive(Clone, Copy)]
 pub struct Acted {
     pub number: u8,
     pub line: [u16; 4],

@@ -1,4 +1,6 @@
 // The program `setup` (L14): carries out a drill file from reset and writes the setup file of the words that it leaves.
+#![tactic(auto)]
+
 mod handing;
 
 use handing::{ROOM, hand_on};

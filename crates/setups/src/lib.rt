@@ -1,6 +1,8 @@
 // The setup file (L13): a desk's words written as a drill file that rebuilds them from reset.
 //
 // The file is measured before it is written, so that nothing is written where the room is too short (Q12).
+#![tactic(auto)]
+
 ghost use Rattle.std.specs.Prelude.{◌≡◌, ◌+◌, ◌≤◌, ◌<◌, length};
 ghost use Rattle.text.specs.Text.{Written};
 ghost use Rattle.setups.specs.Setup.{word_bytes, store_bytes, handed_on, bytes_of, setup_of, setup_answer, setup_left};
@@ -14,7 +16,7 @@ const BEHIND: u16 = 6; // of them behind its length
 
 const STORE: u16 = 1; // its kind
 
-#[derive(Drop)]
+#[derive(Clone, Copy)]
 pub enum Wrote {
     Refused(Refusal),
     Bytes(usize), // the file's length

@@ -4,6 +4,8 @@
 // What was read or written no contract can say. What is proved: each count lies within its buffer,
 // each call's answer is judged as `specs/Steps` says, and every loop ends, since the calls that move
 // nothing are counted down.
+#![tactic(auto)]
+
 mod reading;
 mod steps;
 mod writing;

@@ -2,7 +2,7 @@
 ghost use Rattle.std.specs.Prelude.{◌≡◌};
 ghost use Rattle.table.specs.Words.{format_by, input_format, output_format};
 
-#[derive(Drop)]
+#[derive(Clone, Copy)]
 pub struct Format {
     pub scale: u16,
 }

@@ -1,4 +1,6 @@
 // The lent words: where a loop's words stand (W1, W2), BCD digits (W3), formats (M3) and modes (M4).
+#![tactic(auto)]
+
 mod format;
 mod mode;
 mod offsets;

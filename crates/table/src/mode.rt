@@ -2,7 +2,7 @@
 ghost use Rattle.std.specs.Prelude.{◌≡◌};
 ghost use Rattle.table.specs.Modes.{is_manual, is_automatic, is_cascade};
 
-#[derive(Drop)]
+#[derive(Clone, Copy)]
 pub enum Mode {
     Manual,
     Automatic,

@@ -2,6 +2,8 @@
 //
 // Each function writes its text at a place and answers the place behind it. Every other byte of
 // the buffer stays. The caller shows that the text fits: `specs/Text/Laws` has the lengths.
+#![tactic(auto)]
+
 ghost use Rattle.std.specs.Prelude.{◌≡◌, [], ◌∷◌, ◌+◌, ◌≤◌, ◌<◌, length};
 ghost use Rattle.text.specs.Text.{Written, decimal_of, two_digits, hex_digit, hex_of};
 
