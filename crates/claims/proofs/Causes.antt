@@ -60,6 +60,8 @@ one_of_after [] [] no_more b P d = in_words inl only d
     only : P ⊎ ⊥ → P
     only (inl p) = p
     only (inr none) = absurd none
+one_of_after [] (Q ∷ Ps) none b P d = elim none [ ]
+one_of_after (x ∷ l) [] none b P d = elim none [ ]
 one_of_after (x ∷ l) (Q ∷ Ps) (e also h) b P d = in_words right left (one_of_after l Ps h (b || x) (P ⊎ Q) (is_or b x d e))
   where
     right : (P ⊎ Q) ⊎ OneOf Ps → P ⊎ (Q ⊎ OneOf Ps)
@@ -74,6 +76,8 @@ one_of_after (x ∷ l) (Q ∷ Ps) (e also h) b P d = in_words right left (one_of
 
 one_of : (tests : List Bool) (causes : List (Type 0)) → DecidesAll tests causes → Decides (any tests) (OneOf causes)
 one_of [] [] no_more = record { yes = λ e. absurd (false≢true e); no = λ _ none. none }
+one_of [] (P ∷ Ps) none = elim none [ ]
+one_of (b ∷ l) [] none = elim none [ ]
 one_of (b ∷ l) (P ∷ Ps) (d also h) = one_of_after l Ps h b P d
 
 -- a test that holds of a number below n

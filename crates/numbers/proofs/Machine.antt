@@ -38,7 +38,7 @@ back f = F.to_z-of_z f
 
 -- of a call's result: `got c.f.result c.f.ok`
 pub got : (z : ℤ) → mag z < 2 ^ 63 → to_z w64 (of_z w64 z) ≡ z
-got z h = F.to_z-of_z (record { sfits = h })
+got z h = F.to_z-of_z {w = w64} (record { sfits = h })
 
 -- ---- a test of `<`, passed and failed
 

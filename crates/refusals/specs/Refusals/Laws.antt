@@ -102,6 +102,8 @@ pub data Tests : List Case → List Row → Type 1 where
 -- O4: the answer is then the number of the first row of which a cause holds
 pub first_reported : (l : List Case) (rows : List Row) → Tests l rows → FirstIn rows (number_of (first_of l))
 first_reported [] [] done = refl
+first_reported [] (row ∷ rows) none = elim none [ ]
+first_reported (x ∷ l) [] none = elim none [ ]
 first_reported (x ∷ l) (row ∷ rows) (tests e d rest) = go x.holds d (λ f. first_reported l rows (rest f))
   where
     go : (b : Bool) → Decides b (OneOf row.causes) → (b ≡ false → FirstIn rows (number_of (first_of l)))

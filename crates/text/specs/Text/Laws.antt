@@ -116,7 +116,7 @@ decimal_length k n = digits_all (λ n t. (k : ℕ) → n < 10 ^ suc k → length
 read_append : (value : ℕ) (a b : List ℕ) → read_from value (a ++ b) ≡ read_from (read_from value a) b
 unfolding read_from
 read_append value [] b = refl
-read_append value (digit ∷ a) b = read_append _ a b
+read_append value (digit ∷ a) b = read_append (10 * value + (digit - 48)) a b
 
 -- the decimal digits read back to the number
 pub decimal_reads_back : (n : ℕ) → read_decimal (decimal_of n) ≡ n
