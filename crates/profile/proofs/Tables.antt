@@ -15,7 +15,7 @@ use Rattle.computed.specs.Cases.Laws.{together, in_parts}
 use Rattle.profile.specs.declared.state.Profile.{Profile}
 use Rattle.profile.specs.declared.sampling.Profiled.{Profiled}
 use Rattle.profile.specs.Moves.{command_of, with_hold, handed_over, jogged_of, toward, ramped_to, ramped_by, soaked_by, moved_by, worked_by, advanced_by}
-use Rattle.profile.specs.Flags.{is_soak, deviates, flags_of}
+use Rattle.profile.specs.Flags.{deviates, flags_of}
 use Rattle.profile.specs.Samples.{sampled_by}
 use Rattle.profile.specs.Forecasts.{count_of, ramps_from, forecast_of}
 
