@@ -3,7 +3,7 @@
 -- the rate's; 400 the settings; 800 the output.
 use Prim.Native.Nat.{ℕ}
 use mathlib.Core.Path.{◌≡◌, refl}
-use mathlib.Core.Bool.{Bool, true, false}
+use mathlib.Core.Bool.{true, false}
 use mathlib.Core.List.{List, [], ◌∷◌}
 use Rattle.computed.specs.Cases.Laws.{together, in_parts}
 use Rattle.computed.specs.Cases.{Case, ◌∶◌gives◌, failing}

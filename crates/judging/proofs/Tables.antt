@@ -2,7 +2,7 @@
 -- two mode words, several causes at once, the words of a ramp/soak table, and the pointers, limits, PVs and modes of a transfer.
 use Prim.Native.Nat.{ℕ, ◌+◌}
 use mathlib.Core.Path.{◌≡◌, refl}
-use mathlib.Core.List.{List, [], ◌∷◌, ◌++◌}
+use mathlib.Core.List.{List, [], ◌∷◌}
 use lib.ListN.{set, replicate}
 use Rattle.computed.specs.Cases.{Case, ◌∶◌gives◌, failing}
 use Rattle.computed.specs.Cases.Laws.{together, in_parts}

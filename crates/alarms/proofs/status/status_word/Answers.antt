@@ -1,5 +1,4 @@
 -- `alarms::status_word` meets its contract: it sums the groups, and their sum is the word of the bits (`word_sum`).
-use borrow.Author.Rules.{rules}
 use Rattle.alarms.specs.Sums.Laws.{word_sum}
 use Rattle.alarms.proofs.status.status_word.Goals as goal
 

@@ -1,14 +1,7 @@
 -- `carried::numbers_at` meets its contract: after i rounds the first i numbers are found.
-use borrow.Author.Rules.{rules}
-use Prim.Native.Nat.{◌+◌, ◌-◌, ◌≤◌, ◌<◌}
-use native.Mathlib.Omega.{arith}
-use native.Mathlib.Numerals.{add-one}
-use mathlib.Core.Path.{◌≡◌, refl}
-use mir.Facts.{to_z-of_z}
-use mir.Syntax.{w64}
-use lib.IntN.{pos}
-use lib.ListN.{length, get_or, take, drop, length-set, length-drop}
-use lib.Seq.{take-suc, take-suc-set, take_all, get_or-drop}
+use Prim.Native.Nat.{◌-◌, ◌≤◌}
+use mathlib.Core.Path.{◌≡◌}
+use lib.ListN.{length, take, drop}
 use Rattle.carried.specs.Layout.{field_count}
 use Rattle.carried.proofs.layout.numbers_at.Given as goal
 

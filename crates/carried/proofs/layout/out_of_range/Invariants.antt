@@ -1,18 +1,10 @@
 -- `carried::out_of_range` meets its contract: what was found so far, and the tests of the rows that are left, are those of the record.
-use Prim.Native.Nat.{◌-◌, ◌≤◌, ◌<◌}
-use native.Mathlib.Omega.{arith}
-use mathlib.Core.Path.{◌≡◌, refl, ◌∙◌}
+use Prim.Native.Nat.{◌-◌, ◌≤◌}
+use mathlib.Core.Path.{◌≡◌}
 use mathlib.Core.List.{map}
-use native.Mathlib.Numerals.{add-one}
-use lib.IntN.{ℤ, pos}
-use lib.ListN.{get_or, drop, get_or-map}
-use lib.Seq.{drop-cons}
-use mir.Val.{SFits, to_z, of_z}
-use mir.Syntax.{w64}
-use Rattle.numbers.proofs.Machine.{back}
+use lib.ListN.{drop}
 use Rattle.table.specs.Words.{any_after}
-use Rattle.carried.specs.Layout.{Range, ◌to◌, ranges, field_count, row_of, outside_row, range_tests, out_of_range}
-use borrow.Author.Rules.{rules}
+use Rattle.carried.specs.Layout.{Range, ranges, field_count, range_tests, out_of_range}
 use Rattle.carried.proofs.layout.out_of_range.Given as goal
 
 -- the two arrays are the ends of the definition's rows

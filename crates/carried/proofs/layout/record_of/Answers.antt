@@ -1,22 +1,23 @@
 -- `carried::record_of` meets its contract: what the machine reads back of each number is that number, and PVs in range are words.
-use Prim.Native.Nat.{ℕ}
-use lib.Dec.{lit<}
-use lib.IntN.{pos}
-use lib.ListN.{get_or}
-use Rattle.carried.specs.Layout.{Rows, record_from}
+use Rattle.std.proofs.Common.{lit<}
+use Rattle.carried.specs.Layout.{record_from}
 use Rattle.carried.specs.Layout.Laws.{rows_in}
-use Rattle.carried.proofs.Numbers.{Same, same}
-use borrow.Author.Rules.{rules}
+use Rattle.carried.proofs.Numbers.{same}
 use Rattle.carried.proofs.layout.record_of.Goals as goal
 
-module _ (s : goal.Start) where
-  read : (i : ℕ) → Same (get_or s.args.t1 i (pos 0))
-  read = same s.args.t1 s.well-formed.0.0 s.well-formed.0.1.1
+pub word_of-last-requires : goal.word_of-last-requires
+word_of-last-requires c = rw (same c.args.n c.well_formed.0.0 c.well_formed.0.1.1 3) (rows_in _ c.requires 3 (lit< tt))
 
-  rows : Rows s.args.t1
-  rows = rows_in _ s.pre
+pub word_of-prior-requires : goal.word_of-prior-requires
+word_of-prior-requires c = rw (same c.args.n c.well_formed.0.0 c.well_formed.0.1.1 4) (rows_in _ c.requires 4 (lit< tt))
 
 pub returns : goal.returns
 unfolding record_from
 returns c =
-    simp (read (goal.at.returns c).Start, c.profile_of-profile.ensures, c.mode_from-mode.ensures, c.word_of-last.ensures, c.word_of-prior.ensures)
+    simp (
+      same c.args.n c.well_formed.0.0 c.well_formed.0.1.1,
+      c.profile_of-profile.ensures,
+      c.mode_from-mode.ensures,
+      c.word_of-last.ensures,
+      c.word_of-prior.ensures,
+    )
