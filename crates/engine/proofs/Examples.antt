@@ -7,7 +7,7 @@ use mathlib.Core.List.{List, [], ◌∷◌, ◌++◌}
 use lib.IntN.{ℤ, pos, neg_ℤ}
 use Rattle.computed.specs.Cases.{Case, failing}
 use Rattle.computed.specs.Cases.Laws.{together, in_parts}
-use Rattle.engine.proofs.Runs.{Call, Loop, store, sample, number, word, field, Step, ◌∶◌leaves◌, run, reset, each, in_turn, after}
+use Rattle.engine.proofs.Runs.{Call, Loop, store, sample, number, word, field, ◌∶◌leaves◌, run, reset, each, in_turn, after}
 
 -- the settings of X1, in Manual: output 2,000, high limit 4,095
 tuned : Loop
