@@ -1,0 +1,14 @@
+-- `desk::clear_numbers` meets its contract.
+use lib.IntN.{pos}
+use Rattle.desk.proofs.Clearing.{Cleared, clear_one, cleared}
+use lib.ListN.{length, length-set}
+use Prim.Native.Nat.{◌-◌}
+use mathlib.Core.Path.{refl}
+use native.Mathlib.Omega.{arith}
+use Rattle.desk.proofs.resetting.clear_numbers.Given as goal
+
+abbrev pub invariant-loop-i : goal.invariant-loop-i
+invariant-loop-i l = Cleared l.initial.numbers (pos 0) l.numbers l.i
+
+abbrev pub decreases-loop-i : goal.decreases-loop-i
+decreases-loop-i l = length l.numbers - l.i
