@@ -1,15 +1,25 @@
 -- `desk::reset` meets its contract: by the lengths of the memory.
-use borrow.Author.Tests.{not-true, not-false}
-use mathlib.Core.Path.{sym, ◌∙◌}
-use Rattle.desk.specs.Desk.{reset_answer, reset_left}
-use Rattle.desk.specs.Desk.Laws.{promised, reset_done}
-use borrow.Author.Rules.{rules}
+use Rattle.std.proofs.Common.{◌≡◌, false, sym, ◌∙◌}
+use Rattle.desk.specs.Desk.{Desk, fitting_of, reset_answer, reset_left}
+use Rattle.desk.specs.Desk.Laws.{reset_done}
 use Rattle.desk.proofs.resetting.reset.Goals as goal
 
-pub returns-then-not-fitting : goal.returns-then-not-fitting
+-- memory of other lengths stays as it was
+refused : (d : Desk) → fitting_of d ≡ false → d ≡ reset_left d
 unfolding reset_answer reset_left
-returns-then-not-fitting c = promised _ _ (simp (sym c.fitting.ensures ∙ not-true _ c.if-not-fitting.true))
+refused d e = rw e
 
-pub returns : goal.returns
-returns c =
-    reset_done _ (sym c.fitting.ensures ∙ not-false _ c.if-not-fitting.false) c.clear_words.ensures c.clear_numbers.ensures
+pub returns-then-not-fitting-clause-answer : goal.returns-then-not-fitting-clause-answer
+unfolding reset_answer
+returns-then-not-fitting-clause-answer c = simp (sym c.fitting.ensures ∙ c.if-not-fitting.true)
+
+pub returns-then-not-fitting-clause-left : goal.returns-then-not-fitting-clause-left
+returns-then-not-fitting-clause-left c = refused _ (sym c.fitting.ensures ∙ c.if-not-fitting.true)
+
+pub returns-clause-answer : goal.returns-clause-answer
+returns-clause-answer c =
+    (reset_done _ (sym c.fitting.ensures ∙ c.if-not-fitting.false) c.clear_words.ensures c.clear_numbers.ensures).0
+
+pub returns-clause-left : goal.returns-clause-left
+returns-clause-left c =
+    (reset_done _ (sym c.fitting.ensures ∙ c.if-not-fitting.false) c.clear_words.ensures c.clear_numbers.ensures).1

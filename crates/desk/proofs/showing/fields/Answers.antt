@@ -1,33 +1,53 @@
 -- `desk::fields` meets its contract: by the length, and then by what is known of the loop.
-use native.Mathlib.Omega.{arith}
-use borrow.Author.Tests.{eq-eqb, ne_eqb}
-use mathlib.Core.Path.{sym, ◌∙◌}
-use Rattle.desk.specs.Desk.{fields_answer, fields_left}
-use Rattle.desk.specs.Desk.Laws.{copied, Known, known_loop_lem}
-use borrow.Author.Rules.{rules}
+use Rattle.std.proofs.Common.{◌≡◌, ◌≢◌, ℕ, ℤ, List, length, arith, sym, eq-eqb, ne_eqb}
+use Rattle.std.proofs.lemmas.List.Edits.{sets}
+use Rattle.refusals.specs.declared.Answer.TheVariants.{Accepted, Refused}
+use Rattle.refusals.specs.Refusals.{first_of}
+use Rattle.carried.specs.Layout.{number_count, slot_of, numbers_at}
+use Rattle.desk.specs.Desk.{loop_cases, fields_answer, fields_left}
+use Rattle.desk.specs.Desk.Laws.{known_loop_lem}
 use Rattle.desk.proofs.showing.fields.Goals as goal
 
-pub returns-then-numbers-ne-NUMBERS : goal.returns-then-numbers-ne-NUMBERS
-unfolding fields_answer fields_left
-returns-then-numbers-ne-NUMBERS c = copied _ _ (simp (ne_eqb _ _ c.if-numbers-ne-NUMBERS.true))
+-- where the call is refused the copy stays, else it begins with the record's numbers
+module _ (ns : List ℤ) (k : ℕ) (before : List ℤ) where
+  short : length ns ≢ number_count → before ≡ fields_left ns k before
+  unfolding fields_answer fields_left
+  short h = rw (ne_eqb _ _ h)
 
-pub returns-in-Refused : goal.returns-in-Refused
-unfolding fields_answer fields_left
-returns-in-Refused c =
-    copied _ _ (rw (eq-eqb _ _ c.if-numbers-ne-NUMBERS.false) (sym c.known_loop-known.ensures ∙ c.known-1.given.1))
+  unknown : {why : _} → length ns ≡ number_count → first_of (loop_cases ns k) ≡ Refused why → before ≡ fields_left ns k before
+  unfolding fields_answer fields_left
+  unknown h e = rw (eq-eqb _ _ h, e)
 
-loop : (c : goal.In-Accepted) → let a = c.args in Known a.numbers.now a.number
-loop c = known_loop_lem _ _ (sym c.known_loop-known.ensures ∙ c.enum_told-1.given.1)
+  known : length ns ≡ number_count → first_of (loop_cases ns k) ≡ Accepted → sets before 0 (numbers_at ns (slot_of k)) ≡ fields_left ns k before
+  unfolding fields_answer fields_left
+  known h e = rw (eq-eqb _ _ h, e)
+
+pub returns-then-numbers-ne-NUMBERS-clause-answer : goal.returns-then-numbers-ne-NUMBERS-clause-answer
+unfolding fields_answer
+returns-then-numbers-ne-NUMBERS-clause-answer c = simp (ne_eqb _ _ c.if-numbers-ne-NUMBERS.true)
+
+pub returns-then-numbers-ne-NUMBERS-clause-left : goal.returns-then-numbers-ne-NUMBERS-clause-left
+returns-then-numbers-ne-NUMBERS-clause-left c = short _ _ _ c.if-numbers-ne-NUMBERS.true
+
+pub returns-in-Refused-clause-answer : goal.returns-in-Refused-clause-answer
+unfolding fields_answer
+returns-in-Refused-clause-answer c = rw (eq-eqb _ _ c.if-numbers-ne-NUMBERS.false) c.in-Refused.ensures
+
+pub returns-in-Refused-clause-left : goal.returns-in-Refused-clause-left
+returns-in-Refused-clause-left c = unknown _ _ _ c.if-numbers-ne-NUMBERS.false (sym c.in-Refused.ensures)
 
 pub overflow_cast-number : goal.overflow_cast-number
-overflow_cast-number c = omega (arith, (loop (goal.at.overflow_cast-number c).In-Accepted).below)
+overflow_cast-number c = omega (arith, (known_loop_lem _ _ (sym c.in-Accepted.ensures)).below)
 
 pub numbers_at-requires : goal.numbers_at-requires
 numbers_at-requires c =
-    omega (arith, c.slot_of.ensures, c.if-numbers-ne-NUMBERS.false, (loop (goal.at.numbers_at-requires c).In-Accepted).below)
+    omega (arith, c.slot_of.ensures, c.if-numbers-ne-NUMBERS.false, (known_loop_lem _ _ (sym c.in-Accepted.ensures)).below)
 
-pub returns-in-Accepted : goal.returns-in-Accepted
-unfolding fields_answer fields_left
-returns-in-Accepted c =
+pub returns-in-Accepted-clause-answer : goal.returns-in-Accepted-clause-answer
+unfolding fields_answer
+returns-in-Accepted-clause-answer c = rw (eq-eqb _ _ c.if-numbers-ne-NUMBERS.false) c.in-Accepted.ensures
+
+pub returns-in-Accepted-clause-left : goal.returns-in-Accepted-clause-left
+returns-in-Accepted-clause-left c =
     rw (c.put_numbers.ensures, c.numbers_at.ensures, c.slot_of.ensures)
-    (copied _ _ (rw (eq-eqb _ _ c.if-numbers-ne-NUMBERS.false) (sym c.known_loop-known.ensures ∙ c.enum_told-1.given.1)))
+    (known _ _ _ c.if-numbers-ne-NUMBERS.false (sym c.in-Accepted.ensures))
