@@ -1,0 +1,27 @@
+-- `setups::file_length` meets its contract: with the bytes of the words that are left it would be the file's length.
+use Rattle.std.proofs.Common.{◌≡◌, sym, ◌∙◌, ◌+◌, ◌≤◌, ◌<◌, arith, length, get_or, drop}
+use Rattle.setups.specs.Setup.{bytes_of, bytes_from}
+use Rattle.setups.specs.Setup.Laws.{bytes_few, bytes_none, length_step}
+use Rattle.setups.proofs.file_length.Goals as goal
+use Rattle.setups.proofs.file_length.Goals.{then-handed_on, else-handed_on}
+
+pub loop-i-preserved : goal.loop-i-preserved
+loop-i-preserved c =
+    let l = c.loop-i in
+    let words = c.args.words.now in
+    let test = sym c.handed_on.ensures in
+    let added : c.if-handed_on.n ≡ l.n + length (bytes_of l.i (get_or words l.i 0)) =
+    elim c.if-handed_on.branch [
+      | then-handed_on w ↦ rw (test ∙ w.if-handed_on.true) w.n-is
+      | else-handed_on w ↦ rw (test ∙ w.if-handed_on.false) (omega (arith, w.n-is))
+    ] in
+    let on : l.i < length words = omega arith in
+    (omega arith, omega (arith, bytes_few l.i (get_or words l.i 0)), omega (arith, length_step words l.i on, l.invariant.2))
+
+pub returns : goal.returns
+returns c =
+    let l = c.loop-i in
+    let words = c.args.words.now in
+    let all : length words ≤ l.i = omega arith in
+    let none : length (bytes_from l.i (drop l.i words)) ≡ 0 = rw (bytes_none words l.i all) in
+    omega (arith, l.invariant.2)
