@@ -6,7 +6,7 @@ use Rattle.refusals.specs.declared.Answer.TheVariants.{Accepted}
 use Rattle.engine.specs.Steps.{step_of}
 use Rattle.desk.specs.declared.admitting.Admitted.{Admitted}
 use Rattle.desk.specs.declared.admitting.Admission.TheVariants.{Sample}
-use Rattle.desk.specs.Desk.{Desk, lent, reading_at, sample_answer, admitted_at, admission_at, step_at}
+use Rattle.desk.specs.Desk.{Desk, lent, sample_answer, admitted_at, admission_at, step_at}
 use Rattle.desk.specs.Desk.Laws.{admission_refused, admission_sample, Sampled, sampled, shown_refused, shown_done, major_few}
 use Rattle.desk.proofs.sampling.sample.Goals as goal
 
