@@ -1,5 +1,4 @@
 -- `desk::put_transfer` meets its contract: by whether there is a transfer.
-use borrow.Author.Rules.{rules}
 use Rattle.desk.specs.Desk.{transfer_left}
 use Rattle.desk.proofs.sampling.put_transfer.Goals as goal
 

@@ -5,52 +5,45 @@ use mathlib.Core.Path.{◌≡◌, sym, ap, ◌∙◌}
 use Rattle.refusals.specs.declared.Answer.TheVariants.{Accepted}
 use Rattle.engine.specs.Steps.{step_of}
 use Rattle.desk.specs.declared.admitting.Admitted.{Admitted}
-use Rattle.desk.specs.Desk.{Desk, lent, reading_at, sample_answer, admitted_at, step_at}
+use Rattle.desk.specs.declared.admitting.Admission.TheVariants.{Sample}
+use Rattle.desk.specs.Desk.{Desk, lent, sample_answer, admitted_at, admission_at, step_at}
 use Rattle.desk.specs.Desk.Laws.{admission_refused, admission_sample, Sampled, sampled, shown_refused, shown_done, major_few}
-use borrow.Author.Rules.{rules}
 use Rattle.desk.proofs.sampling.sample.Goals as goal
 
--- the arm with what was admitted
-module _ (c : goal.In-Sample-2) where
-  abbrev start : goal.Start
-  start = (?place None)
+-- what is known of an admitted sample
+record Known (d : Desk) (k raw : ℕ) (a : Admitted) : Type 0 where
+  answer : sample_answer d k raw ≡ Accepted
+  is : a ≡ admitted_at d k raw
+  facts : Sampled d k raw
 
-  abbrev d : Desk
-  d = lent start.args.words.now start.args.numbers.now
-
-  abbrev k : ℕ
-  k = start.args.number
-
-  abbrev raw : ℕ
-  raw = start.args.raw
-
-  accepted : (sample_answer d k raw ≡ Accepted) × (c.admission-in-Sample-1.given.0.0 ≡ admitted_at d k raw)
-  accepted = admission_sample d k raw (sym c.admit-admission.ensures ∙ c.admission-in-Sample-1.given.1)
-
-  known : Sampled d k raw
-  known = sampled d k raw accepted.0
-
-  reading : c.admission-in-Sample-1.given.0.0.reading ≡ reading_at d k
-  reading = ap (λ (a : Admitted). a.reading) accepted.1
+known : (d : Desk) (k raw : ℕ) {a : Admitted} → admission_at d k raw ≡ Sample a → Known d k raw a
+known d k raw e =
+    let p = admission_sample d k raw e in record { answer = p.0; is = p.1; facts = sampled d k raw p.0 }
 
 pub step-done-requires : goal.step-done-requires
-step-done-requires c = rw (accepted (goal.at.step-done-requires c).In-Sample-2).1 ((known (goal.at.step-done-requires c).In-Sample-2).reading, (known (goal.at.step-done-requires c).In-Sample-2).carried)
-
-stepped : (c : goal.After-step-done) → c.step-done.result ≡ step_at (d (?place In-Sample-2)) (k (?place In-Sample-2)) (raw (?place In-Sample-2))
-stepped c = c.step-done.ensures ∙ ap (λ ((?place In-Sample-2) : Admitted). step_of c.reading-1 c.carried-1 c.pv) (accepted (?place In-Sample-2)).1
+step-done-requires c =
+    let s = known _ _ _ (sym c.admit-admission.ensures ∙ c.in-Sample.is) in rw s.is (s.facts.reading, s.facts.carried)
 
 pub overflow_cast-number : goal.overflow_cast-number
-overflow_cast-number c = omega (arith, (known (goal.at.overflow_cast-number c).In-Sample-2).below)
+overflow_cast-number c =
+    let s = known _ _ _ (sym c.admit-admission.ensures ∙ c.in-Sample.is) in omega (arith, s.facts.below)
 
 pub write_back-requires : goal.write_back-requires
 write_back-requires c =
-    let s = known (goal.at.write_back-requires c).In-Sample-2 in
-    (s.memory.words, s.memory.numbers, s.below, rw (reading (goal.at.write_back-requires c).In-Sample-2) (major_few (d (goal.at.write_back-requires c).In-Sample-2) (k (goal.at.write_back-requires c).In-Sample-2)))
+    let d = lent c.args.words.now c.args.numbers.now in
+    let s = known d c.args.number c.args.raw (sym c.admit-admission.ensures ∙ c.in-Sample.is) in
+    (s.facts.memory.words, s.facts.memory.numbers, s.facts.below, rw s.is (major_few d c.args.number))
 
 pub returns-in-Refused : goal.returns-in-Refused
 returns-in-Refused c =
-    shown_refused _ _ _ (admission_refused _ _ _ (sym c.admit-admission.ensures ∙ c.admission-1.given.1))
+    let p = shown_refused _ _ _ (admission_refused _ _ _ (sym c.admit-admission.ensures ∙ c.in-Refused.is)) in
+    record { sampled = p.0; left = p.1 }
 
 pub returns-in-Sample : goal.returns-in-Sample
 returns-in-Sample c =
-    rw (c.write_back.ensures, reading (goal.at.returns-in-Sample c).In-Sample-2, stepped (goal.at.returns-in-Sample c).After-step-done) (shown_done (d (goal.at.returns-in-Sample c).In-Sample-2) (k (goal.at.returns-in-Sample c).In-Sample-2) (raw (goal.at.returns-in-Sample c).In-Sample-2) (accepted (goal.at.returns-in-Sample c).In-Sample-2).0)
+    let d = lent c.args.words.now c.args.numbers.now in
+    let s = known d c.args.number c.args.raw (sym c.admit-admission.ensures ∙ c.in-Sample.is) in
+    let stepped : c.step-done.result ≡ step_at d c.args.number c.args.raw
+    = c.step-done.ensures ∙ ap (λ (a : Admitted). step_of a.reading a.carried a.pv) s.is in
+    let p = shown_done d c.args.number c.args.raw s.answer in
+    record { sampled = rw stepped p.0; left = rw (c.write_back.ensures, s.is, stepped) p.1 }

@@ -1,5 +1,4 @@
 -- `desk::write_back` meets its contract, by what its callees ensure.
-use borrow.Author.Rules.{rules}
 use Rattle.desk.specs.Desk.{done_by}
 use Rattle.desk.proofs.sampling.write_back.Goals as goal
 
