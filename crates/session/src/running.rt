@@ -33,7 +33,7 @@ fn keep(answers: &mut [u8], at: usize, number: u8)
 
 // Every record of a file in turn.
 fn carry_all(file: &[u8], words: &mut [u16], numbers: &mut [i64], answers: &mut [u8]) -> Totals
-    ensures refused_after { state words.new numbers.new result.count result.refused ≡ run_of (begun (lent words.old numbers.old)) (records_of file.now) }
+    ensures state_after { state words.new numbers.new result.count result.refused ≡ run_of (begun (lent words.old numbers.old)) (records_of file.now) }
     ensures answers_after { answers.new ≡ sets answers.old 0 (answers_for (lent words.old numbers.old) (records_of file.now)) }
 {
     let mut count = 0;
