@@ -1,5 +1,5 @@
 -- `kexbardi::kexbardi_sample` meets its contract: it is the desk's call, and the line is the one that the call shows.
-use Prim.Native.Nat.{ℕ, ◌<◌}
+use Prim.Native.Nat.{ℕ}
 use native.Mathlib.Omega.{arith}
 use mathlib.Core.Path.{◌≡◌, sym, ap, ◌∙◌}
 use mathlib.Core.List.{List, [], ◌∷◌}
@@ -11,38 +11,36 @@ use Rattle.refusals.specs.Refusals.Laws.{in_table}
 use Rattle.desk.specs.declared.sampling.Line.{Line}
 use Rattle.desk.specs.declared.sampling.Sampled.TheVariants.{Shown}
 use Rattle.desk.specs.declared.sampling.Sampled.TheVariants.{Refused as Unshown}
-use Rattle.desk.specs.Desk.{Desk, lent, sample_answer, answer_shown, sampled_at}
+use Rattle.desk.specs.Desk.{Desk, sample_answer, answer_shown, sampled_at}
 use Rattle.desk.specs.Desk.Laws.{answer_shown_lem, line_shown}
 use Rattle.kexbardi.specs.Interface.{line_left}
-use borrow.Author.Rules.{rules}
 use Rattle.kexbardi.proofs.kexbardi_sample.Goals as goal
 
 -- a refused sample leaves the line, and one that is shown writes it
-refused-line : (d : Desk) (k raw : ℕ) (line : List ℕ) {why : Refusal} → sampled_at d k raw ≡ Unshown why
+refused_line : (d : Desk) (k raw : ℕ) (line : List ℕ) {why : Refusal} → sampled_at d k raw ≡ Unshown why
     → (number_of (sample_answer d k raw) ≡ number_of_refusal why) × (line_left d k raw line ≡ line)
 unfolding line_left
-refused-line d k raw line {why} e =
+refused_line d k raw line {why} e =
     let answer : sample_answer d k raw ≡ Refused why = sym (answer_shown_lem d k raw) ∙ ap answer_shown e in
     let some = (in_table why).0 in
     (rw answer, rw (answer, ne_eqb (number_of_refusal why) 0 (λ z. omega (arith, some))))
 
-shown-line : (d : Desk) (k raw : ℕ) (line : List ℕ) {l : Line} → sampled_at d k raw ≡ Shown l
+shown_line : (d : Desk) (k raw : ℕ) (line : List ℕ) {l : Line} → sampled_at d k raw ≡ Shown l
     → (number_of (sample_answer d k raw) ≡ 0) × (line_left d k raw line ≡ l.setpoint ∷ l.pv ∷ l.output ∷ l.status ∷ [])
 unfolding line_left
-shown-line d k raw line {l} e =
+shown_line d k raw line {l} e =
     let answer : sample_answer d k raw ≡ Accepted = sym (answer_shown_lem d k raw) ∙ ap answer_shown e in
     (rw answer, rw answer (sym (ap (λ (m : Line). m.setpoint ∷ m.pv ∷ m.output ∷ m.status ∷ []) (line_shown d k raw e))))
 
-pub returns-in-Refused : goal.returns-in-Refused
-returns-in-Refused c =
-    let a = c.args in
-    let d = lent a.words.now a.records.now in
-    let p = refused-line d a.number a.raw a.line.now (sym c.sample-sampled.ensures.0 ∙ c.sampled-1.given.1) in
-    (c.number_of_lem.ensures ∙ sym p.0, (c.sample-sampled.ensures.1, sym p.1))
+pub returns-in-Refused-clause-number : goal.returns-in-Refused-clause-number
+returns-in-Refused-clause-number c =
+    c.number_of.ensures ∙ sym (refused_line _ _ _ c.args.line.now (sym c.sample-sampled.ensures.sampled ∙ c.in-Refused.is)).0
 
-pub returns-in-Shown : goal.returns-in-Shown
-returns-in-Shown c =
-    let a = c.args in
-    let d = lent a.words.now a.records.now in
-    let p = shown-line d a.number a.raw a.line.now (sym c.sample-sampled.ensures.0 ∙ c.sampled-in-Shown-1.given.1) in
-    (sym p.0, (c.sample-sampled.ensures.1, sym p.1))
+pub returns-in-Refused-clause-line : goal.returns-in-Refused-clause-line
+returns-in-Refused-clause-line c = sym (refused_line _ _ _ _ (sym c.sample-sampled.ensures.sampled ∙ c.in-Refused.is)).1
+
+pub returns-in-Shown-clause-number : goal.returns-in-Shown-clause-number
+returns-in-Shown-clause-number c = sym (shown_line _ _ _ c.args.line.now (sym c.sample-sampled.ensures.sampled ∙ c.in-Shown.is)).0
+
+pub returns-in-Shown-clause-line : goal.returns-in-Shown-clause-line
+returns-in-Shown-clause-line c = sym (shown_line _ _ _ _ (sym c.sample-sampled.ensures.sampled ∙ c.in-Shown.is)).1
