@@ -1,15 +1,17 @@
-"""The call graph of a crate's source, before the compiler inlines anything: python3 tests/source_calls.py CRATE NAME
+"""The call graph of the source, before the compiler inlines anything: python3 tests/source_calls.py FOLDER NAME
 
-`rt mir CRATE` prints the program as the prover takes it, one s-expression with a `(fn-def "NAME" ..)` for each function and a
-`(call (direct (fnRef "NAME")) ..)` for each call; with - for CRATE that text is read from standard input. NAME is a function's
-whole name (`numbers::roots::root`), or that of one of CRATE's own. The names of the functions reached are printed, sorted, one
-a line; then `cycle: a -> b -> a`, for each call that lies on a cycle a shortest one with it; then `fault: ..` for a call that
-names no function, or none that is there, and for a function's name that stands anywhere but in a call. The exit status is 0
-without cycle and fault, 1 with one, 2 for wrong use or a text that cannot be read.
+`rt check --generated FOLDER`, run in a crate's folder, writes the crate as the prover takes it. A function has a file of its own,
+Rattle-CRATE-proofs/MODULE/../FUNCTION/Code/Mir.antt, or ../+CYCLE/Code/+FUNCTION.antt where it stands on a cycle of calls; its
+`use` lines name the functions that it speaks of, and `Syntax.call` is a direct call. FOLDER is to have every crate that is
+reached. NAME is a function's whole name (`numbers::roots::root`), or its crate and its last part (`kexbardi_c::kexbardi_sample`).
+The names of the functions reached are printed, sorted, one a line; then `cycle: a -> b -> a`, for each call that lies on a cycle
+a shortest one with it; then `fault: ..` for a call that names no function, or none that is there, for a call through a pointer
+or a bound, and for a function's name that stands anywhere but in a call. The exit status is 0 without cycle and fault, 1 with
+one, 2 for wrong use or a text that cannot be read.
 """
 
+import pathlib
 import re
-import subprocess
 import sys
 
 
@@ -17,70 +19,70 @@ class Unreadable(Exception):
     pass
 
 
-class Name(str):
-    """A string in quotes; words without are plain ones."""
+# A function's name as a file has it: `use Rattle.numbers.proofs.units.Symbol as Symbol'`.
+NAMED = re.compile(r"^use Rattle\.([^\s.]+)\.(?:proofs|specs\.contracts)\.(\S+)\.(Symbol|Key)(?: as (\S+))?$")
+# What leads to code in another way than a direct call.
+LEADS = re.compile(r"\bSyntax\.(call_v|fn_addr|vtable|method|forked|awaited|prim)\b")
 
 
-def parsed(text):
-    """The s-expressions of a text, as lists."""
-    open_lists = [[]]
-    at = 0
-    while at < len(text):
-        if not (found := re.compile(r'\s+|([()])|"([^"\\]*)"|([^\s()"\\]+)').match(text, at)):
-            raise Unreadable(f"no s-expression: {text[at:at + 40]}")
-        at = found.end()
-        mark, name, word = found.groups()
-        if mark == "(":
-            open_lists.append([])
-        elif mark:
-            if len(open_lists) == 1:
-                raise Unreadable("a parenthesis too many")
-            closed = open_lists.pop()
-            open_lists[-1].append(closed)
-        elif name is not None:
-            open_lists[-1].append(Name(name))
-        elif word:
-            open_lists[-1].append(word)
-    if len(open_lists) > 1:
-        raise Unreadable("a parenthesis too few")
-    return open_lists[0]
+def whole_name(folder, file):
+    """The function whose code a file has, as crate::module::function; none where it has no function's."""
+    library, *modules = file.relative_to(folder).parts
+    crate = re.fullmatch(r"Rattle-(\w+)-proofs", library)
+    if not crate:
+        return None
+    if modules[-2:] == ["Code", "Mir.antt"]:
+        return "::".join([crate[1], *modules[:-2]])
+    if modules[-2:-1] == ["Code"] and modules[-3].startswith("+") and modules[-1].startswith("+"):
+        return "::".join([crate[1], *modules[:-3], modules[-1][1:-len(".antt")]])
+    return None
 
 
-def definitions(program):
-    """The functions' bodies by their names. A definition inside another would be lost, so it is refused."""
-    found, waiting = {}, [(program, False)]
-    while waiting:
-        node, inside = waiting.pop()
-        if not isinstance(node, list):
-            continue
-        defines = "fn-def" in node
-        if defines:
-            if inside or len(node) < 3 or node[0] != "fn-def" or not isinstance(node[1], Name) or node[1] in found:
-                raise Unreadable(f"a definition of no known form: {str(node)[:80]}")
-            found[node[1]] = node[2:]
-        waiting += [(part, inside or defines) for part in node]
+def definitions(folder):
+    """The functions' texts by their names."""
+    found = {}
+    for file in sorted(folder.rglob("*.antt")):
+        if name := whole_name(folder, file):
+            if name in found:
+                raise Unreadable(f"{name} is there twice")
+            found[name] = file.read_text(encoding="utf-8")
     return found
 
 
-def calls_of(body, functions):
-    """The functions that a body calls, and what cannot be followed in it."""
-    calls, faults, waiting = set(), [], [body]
-    while waiting:
-        node = waiting.pop()
-        if isinstance(node, Name) and node in functions:
-            faults.append(f"{node} stands outside a call")
-        if not isinstance(node, list):
-            continue
-        if "call" in node:
-            match node:
-                case ["call", ["direct", ["fnRef", Name() as name]], *arguments] if name in functions:
-                    calls.add(name)
-                    waiting += arguments
-                    continue
-            faults.append(f"a call that names no function of the program: {str(node)[:80]}")
-        elif "fnRef" in node:
-            faults.append(f"a function outside a call: {node}")
-        waiting += node
+def found_as(name, functions):
+    """A function by the name that other crates have for it: a library passes it on without its modules."""
+    if name in functions:
+        return name
+    crate, last = name.split("::")[0], name.split("::")[-1]
+    fitting = [it for it in functions if it.startswith(f"{crate}::") and it.split("::")[-1] == last]
+    if len(fitting) > 1:
+        raise Unreadable(f"{name} may be any of {', '.join(fitting)}")
+    return fitting[0] if fitting else None
+
+
+def calls_of(text, functions):
+    """The functions that a text calls, and what cannot be followed in it."""
+    calls, faults, named, lines = set(), [], {}, []
+    for line in text.splitlines():
+        if match := NAMED.match(line):
+            crate, path, kind, alias = match.groups()
+            named[alias or kind] = "::".join([crate, *path.split(".")])
+        elif not line.startswith(("use ", "--")):
+            lines.append(line)
+    words = re.findall(r"[^\s()]+", "\n".join(lines))
+    for before, word in zip(["", *words], words):
+        alias, _, part = word.rpartition(".")
+        if before == "Syntax.call":
+            if part != "name" or alias not in named:
+                faults.append(f"a call that names no function of the program: {word}")
+            elif called := found_as(named[alias], functions):
+                calls.add(called)
+            else:
+                faults.append(f"a call of a function that is not there: {named[alias]}")
+        elif alias in named:
+            faults.append(f"{named[alias]} stands outside a call")
+        elif LEADS.search(word):
+            faults.append(f"a call that is not direct: {word}")
     return calls, faults
 
 
@@ -106,11 +108,11 @@ def cycles(calls):
     return sorted(told)
 
 
-def walk(program, crate, name):
+def walk(folder, name):
     """Prints what a function reaches. The exit status."""
-    functions = definitions(program)
-    start = name if name in functions else f"{crate}::{name}"
-    if start not in functions:
+    functions = definitions(folder)
+    start = found_as(name, functions)
+    if not start:
         raise Unreadable(f"there is no function {name}")
     calls, faults, waiting = {}, [], [start]
     while waiting:
@@ -128,17 +130,9 @@ def main(arguments):
     if len(arguments) != 2:
         print(__doc__, file=sys.stderr)
         return 2
-    crate, name = arguments
     try:
-        if crate == "-":
-            text = sys.stdin.read()
-        else:
-            done = subprocess.run(["rt", "mir", crate], stdout=subprocess.PIPE, stderr=subprocess.PIPE, text=True)
-            if done.returncode != 0:
-                raise Unreadable(f"rt mir {crate} fails: {done.stderr.strip()}")
-            text = done.stdout
-        return walk(parsed(text), crate, name)
-    except (OSError, Unreadable) as error:
+        return walk(pathlib.Path(arguments[0]), arguments[1])
+    except (OSError, UnicodeDecodeError, Unreadable) as error:
         print(f"tests/source_calls.py: {error}", file=sys.stderr)
         return 2
 

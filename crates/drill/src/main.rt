@@ -2,16 +2,19 @@
 #![tactic(auto)]
 
 use programs::Asked;
+use std::io::{Stderr, Stdout};
 
 // The lines of a drill file.
-fn print_lines(file: &[u8]) {
+fn print_lines(stdout: &mut Stdout, stderr: &mut Stderr, file: &[u8]) {
     let mut out = session::output_buffer();
     let n = session::drill(file, &mut out);
-    programs::write(b"drill", &out[..n]);
+    programs::write(stdout, stderr, b"drill", &out[..n]);
 }
 
-fn print_help() {
+fn print_help(stdout: &mut Stdout, stderr: &mut Stderr) {
     programs::write(
+        stdout,
+        stderr,
         b"drill",
         b"drill [FILE]: carries out a drill file from reset and prints a line for each of its records\n\
         Without FILE it reads standard input. A file has at most 65,536 bytes; a longer one prints: too long\n\
@@ -21,14 +24,17 @@ fn print_help() {
     );
 }
 
-fn main() {
+fn main(rt: HostRuntime) {
+    let mut stdin = rt.stdin();
+    let mut stdout = rt.stdout();
+    let mut stderr = rt.stderr();
     let mut buffer = session::input_buffer();
-    let input = programs::read_input(b"drill", &mut buffer);
+    let input = programs::read_input(&rt, &mut stdin, &mut stderr, b"drill", &mut buffer);
     let n = input.count;
     let asked = input.asked;
     match asked {
-        Asked::File => print_lines(&buffer[..n]),
-        Asked::Help => print_help(),
+        Asked::File => print_lines(&mut stdout, &mut stderr, &buffer[..n]),
+        Asked::Help => print_help(&mut stdout, &mut stderr),
         Asked::Nothing => {}
     }
 }

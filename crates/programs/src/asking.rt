@@ -1,12 +1,22 @@
 // What a program is asked for by its argument: the file of that name, standard input without one, or its help.
-ghost use Rattle.std.specs.Prelude.{◌≡◌, ◌≤◌, length};
-ghost use Rattle.io.specs.Counts.{IsPrefixLen};
+ghost use Rattle.std.specs.Prelude.{◌≡◌, ◌≤◌, ◌↔◌, length, IsTrue};
+ghost use Rattle.text.specs.Text.{bytes};
+ghost use Rattle.streams.specs.Counts.{IsPrefixLen};
 
 use crate::names::hide_controls;
-use crate::telling::{say, tell};
-use libc::{PATH_MAX, STDIN_FILENO};
+use crate::telling::{LONGEST_NAME, say, tell};
+use std::env::{Env, FillError};
+use std::fs::File;
+use std::io;
+use std::io::{Read, Write};
+use std::rt::Files;
 
-const LONGEST_NAME: usize = PATH_MAX - 1; // a path's last byte is a 0, which the name has not
+// The system's numbers of what is told of an argument.
+const MISSING: i32 = 22; // EINVAL
+
+const TOO_LONG: i32 = 36; // ENAMETOOLONG
+
+const NO_TEXT: i32 = 84; // EILSEQ
 
 #[derive(Drop)]
 pub enum Asked {
@@ -28,13 +38,18 @@ fn nothing_read(asked: Asked) -> Input
     Input { asked, count: 0 }
 }
 
-fn standard_input(program: &[u8], input: &mut [u8]) -> Input
+fn standard_input<I: Read, E: Write>(
+    stdin: &mut I,
+    stderr: &mut E,
+    program: &[u8],
+    input: &mut [u8],
+) -> Input
     requires { length program.now ≤ 8 }
     ensures { IsPrefixLen result.count input.new }
 {
-    let got = streams::read_whole(STDIN_FILENO, input);
-    if !got.whole {
-        tell(program, b"standard input");
+    let got = streams::read_whole(stdin, input);
+    if let Some(error) = got.failure {
+        tell(stderr, program, b"standard input", &error);
         return nothing_read(Asked::Nothing);
     }
     Input {
@@ -43,64 +58,112 @@ fn standard_input(program: &[u8], input: &mut [u8]) -> Input
     }
 }
 
-fn tell_name(program: &[u8], name: &mut [u8])
+fn tell_name<E: Write>(stderr: &mut E, program: &[u8], name: &mut [u8], error: &io::Error)
     requires { (length program.now ≤ 8) × (length name.old ≤ 4095) }
 {
     hide_controls(name);
-    tell(program, name);
+    tell(stderr, program, name, error);
 }
 
-// A file that could not be read stays open: the program ends, and to close it could set another errno.
-fn file(program: &[u8], name: &mut [u8], input: &mut [u8]) -> Input
+// std opens a file by a text, so a name that is none cannot be opened.
+fn open<R: Files>(rt: &R, name: &[u8]) -> io::Result<R::File> {
+    match std::str::from_utf8(name) {
+        Ok(path) => File::open(rt, path),
+        Err(_) => Err(io::Error::from_raw_os_error(NO_TEXT)),
+    }
+}
+
+fn file<R: Files, E: Write>(
+    rt: &R,
+    stderr: &mut E,
+    program: &[u8],
+    name: &mut [u8],
+    input: &mut [u8],
+) -> Input
     requires { (length program.now ≤ 8) × (length name.old ≤ 4095) }
     ensures { IsPrefixLen result.count input.new }
 {
-    let fd = os::open_read(name);
-    if fd < 0 {
-        tell_name(program, name);
+    let mut opened = match open(rt, name) {
+        Ok(opened) => opened,
+        Err(error) => {
+            tell_name(stderr, program, name, &error);
+            return nothing_read(Asked::Nothing);
+        }
+    };
+    let got = streams::read_whole(&mut opened, input);
+    if let Some(error) = got.failure {
+        tell_name(stderr, program, name, &error);
         return nothing_read(Asked::Nothing);
     }
-    let got = streams::read_whole(fd, input);
-    if !got.whole {
-        tell_name(program, name);
-        return nothing_read(Asked::Nothing);
-    }
-    libc::close(fd);
     Input {
         asked: Asked::File,
         count: got.count,
     }
 }
 
-// Of an argument for which there is no room, errno tells.
-fn argument(program: &[u8], input: &mut [u8]) -> Input
+fn no_name<E: Write>(stderr: &mut E, program: &[u8], error: i32) -> Input
+    requires { length program.now ≤ 8 }
+    ensures { (result.asked ≡ Asked.Nothing) × (result.count ≡ 0) }
+{
+    let error = io::Error::from_raw_os_error(error);
+    tell(stderr, program, b"the file's name", &error);
+    nothing_read(Asked::Nothing)
+}
+
+fn asks_help(name: &[u8]) -> bool
+    ensures { IsTrue result ↔ (name.now ≡ bytes "--help") }
+{
+    let help: &[u8] = b"--help";
+    name == help
+}
+
+fn argument<R: Env + Files, E: Write>(
+    rt: &R,
+    stderr: &mut E,
+    program: &[u8],
+    input: &mut [u8],
+) -> Input
     requires { length program.now ≤ 8 }
     ensures { IsPrefixLen result.count input.new }
 {
     let mut name = [0u8; LONGEST_NAME];
-    let n = os::arg(1, &mut name);
-    if os::errno() != 0 {
-        tell(program, b"the file's name");
-        return nothing_read(Asked::Nothing);
-    }
-    if check::same(&name[..n], b"--help") {
+    let n = match rt.arg(1, &mut name) {
+        Ok(n) => n,
+        Err(FillError::TooLong) => return no_name(stderr, program, TOO_LONG),
+        Err(FillError::NotPresent) => return no_name(stderr, program, MISSING),
+    };
+    if asks_help(&name[..n]) {
         return nothing_read(Asked::Help);
     }
-    file(program, &mut name[..n], input)
+    file(rt, stderr, program, &mut name[..n], input)
+}
+
+fn has_argument<R: Env>(rt: &R, i: usize) -> bool {
+    let mut start = [0u8; 1]; // what stands in it does not count
+    !matches!(rt.arg(i, &mut start), Err(FillError::NotPresent))
 }
 
 // The file that the program is asked to read, into `input`, as much of it as there is room for.
-pub fn read_input(program: &[u8], input: &mut [u8]) -> Input
+pub fn read_input<R: Env + Files, I: Read, E: Write>(
+    rt: &R,
+    stdin: &mut I,
+    stderr: &mut E,
+    program: &[u8],
+    input: &mut [u8],
+) -> Input
     requires { length program.now ≤ 8 }
     ensures { IsPrefixLen result.count input.new }
 {
-    let words = os::arg_count(); // the program's own name among them
-    if words < 2 {
-        return standard_input(program, input);
+    if !has_argument(rt, 1) {
+        return standard_input(stdin, stderr, program, input);
     }
-    if words == 2 {
-        return argument(program, input);
+    if !has_argument(rt, 2) {
+        return argument(rt, stderr, program, input);
     }
-    say(program, b"more than one argument, and nothing was read\n");
+    say(
+        stderr,
+        program,
+        b"more than one argument, and nothing was read\n",
+    );
     nothing_read(Asked::Nothing)
 }

@@ -1,7 +1,7 @@
 // What the programs have in common (L12, L14): the one argument, the file that is read, what is written on standard
 // output, and failures, each told in one line on standard error.
 //
-// The language has no exit status, so that line is the only sign of a failure.
+// The exit status is always 0, so that line is the only sign of a failure.
 #![tactic(auto)]
 
 mod asking;

@@ -1,12 +1,22 @@
 // A failure told in one line on standard error: `PROGRAM: WHAT: REASON`, or `PROGRAM: WHAT` where the system has no reason.
-ghost use Rattle.std.specs.Prelude.{◌+◌, ◌≤◌, length};
+ghost use Rattle.std.specs.Prelude.{◌+◌, ◌≤◌, ℕ, List, length};
+ghost use Rattle.std.specs.Io.{StartsWith};
 ghost use Rattle.text.specs.Text.{Written};
-ghost use Rattle.io.specs.Counts.{IsPrefixLen};
-ghost use Rattle.programs.specs.Told.{told_of};
+ghost use Rattle.streams.specs.Counts.{IsPrefixLen};
+ghost use Rattle.streams.specs.Steps.{AppendsStart};
+ghost use Rattle.programs.specs.Told.{failure_of, told_of};
 
-use libc::{PATH_MAX, STDERR_FILENO};
+use std::fmt::InlineText;
+use std::io;
+use std::io::Write;
 
-const LINE: usize = PATH_MAX + 10; // a file's name behind a program's of up to eight bytes, a colon and a space
+pub(crate) const LONGEST_NAME: usize = 4095; // a path has up to 4,096 bytes, the last a 0, which the name has not
+
+const REASON: usize = 256; // bytes of an error's text
+
+const TOLD: usize = LONGEST_NAME + 10; // a file's name behind a program's of up to eight bytes, a colon and a space
+
+const LINE: usize = TOLD + REASON + 3; // a colon, a space and a line feed
 
 // `PROGRAM: WHAT` at the start of a line. Answers how many bytes these are.
 fn put_told(line: &mut [u8], program: &[u8], what: &[u8]) -> usize
@@ -19,21 +29,48 @@ fn put_told(line: &mut [u8], program: &[u8], what: &[u8]) -> usize
     text::put_text(line, behind, what)
 }
 
-// What failed, and errno's reason.
-pub(crate) fn tell(program: &[u8], what: &[u8])
-    requires { (length program.now ≤ 8) × (length what.now ≤ 4095) }
+// `PROGRAM: WHAT: REASON` and a line feed, likewise.
+fn put_failure(line: &mut [u8], program: &[u8], what: &[u8], reason: &[u8]) -> usize
+    requires { length program.now + length what.now + length reason.now + 5 ≤ length line.old }
+    ensures text { Written line.old 0 (failure_of program.now what.now reason.now) line.new result }
+    ensures within { IsPrefixLen result line.new }
 {
-    let mut line = [0u8; LINE];
-    let n = put_told(&mut line, program, what);
-    os::fail(&line[..n]);
+    let told = put_told(line, program, what);
+    let colon = text::put_text(line, told, b": ");
+    let behind = text::put_text(line, colon, reason);
+    text::put_byte(line, behind, b'\n')
 }
 
-// What went wrong, of which errno says nothing; its line feed is part of it.
-// Proved: it is safe and ends, and the line is `put_told`'s. What the system writes no contract can say.
-pub fn say(program: &[u8], what: &[u8])
-    requires { (length program.now ≤ 8) × (length what.now ≤ 4095) }
+// The system's words in an error's text, which has the error's number behind them.
+fn reason_in(text: &str) -> &str
+    ensures front { StartsWith text.now result.now }
+    ensures within { length result.now ≤ length text.now }
 {
+    match text.split_once(" (os error ") {
+        Some((reason, _)) => reason,
+        None => text,
+    }
+}
+
+// What failed, and the error's reason.
+pub(crate) fn tell<E: Write>(stderr: &mut E, program: &[u8], what: &[u8], error: &io::Error)
+    requires { (length program.now ≤ 8) × (length what.now ≤ 4095) }
+    ensures { (reason : List ℕ) × AppendsStart (E.contents stderr.old) (E.contents stderr.new) (failure_of program.now what.now reason) }
+{
+    let text = InlineText::<REASON>::of(error);
+    let reason = reason_in(text.as_str());
     let mut line = [0u8; LINE];
+    let n = put_failure(&mut line, program, what, reason.as_bytes());
+    streams::write_whole(stderr, &line[..n]);
+}
+
+// What went wrong, of which the system says nothing; its line feed is part of it.
+// Proved: it is safe and ends, and what is written of the line is its start. What the system writes no contract can say.
+pub fn say<E: Write>(stderr: &mut E, program: &[u8], what: &[u8])
+    requires { (length program.now ≤ 8) × (length what.now ≤ 4095) }
+    ensures { AppendsStart (E.contents stderr.old) (E.contents stderr.new) (told_of program.now what.now) }
+{
+    let mut line = [0u8; TOLD];
     let n = put_told(&mut line, program, what);
-    streams::write_whole(STDERR_FILENO, &line[..n]);
+    streams::write_whole(stderr, &line[..n]);
 }

@@ -1,6 +1,6 @@
 // L14: the setup file of the words that a drill file leaves.
 ghost use Rattle.std.specs.Prelude.{◌≤◌, length};
-ghost use Rattle.io.specs.Counts.{IsPrefixLen};
+ghost use Rattle.streams.specs.Counts.{IsPrefixLen};
 ghost use Rattle.text.specs.Text.{Written};
 ghost use Rattle.setup.specs.Handing.{written_of};
 

@@ -6,18 +6,21 @@ mod handing;
 use handing::{ROOM, hand_on};
 use programs::Asked;
 use session::LONGEST;
+use std::io::{Stderr, Stdout};
 
-fn write_file(file: &[u8]) {
+fn write_file(stdout: &mut Stdout, stderr: &mut Stderr, file: &[u8]) {
     let mut out = [0u8; ROOM];
     let n = hand_on(file, &mut out);
-    programs::write(b"setup", &out[..n]);
+    programs::write(stdout, stderr, b"setup", &out[..n]);
     if LONGEST < file.len() {
-        programs::say(b"setup", b"too long\n");
+        programs::say(stderr, b"setup", b"too long\n");
     }
 }
 
-fn print_help() {
+fn print_help(stdout: &mut Stdout, stderr: &mut Stderr) {
     programs::write(
+        stdout,
+        stderr,
         b"setup",
         b"setup [FILE]: carries out a drill file from reset and writes a drill file that rebuilds the words it leaves\n\
         Without FILE it reads standard input. A file has at most 65,536 bytes; of a longer one nothing is written, and standard error says so\n\
@@ -27,14 +30,17 @@ fn print_help() {
     );
 }
 
-fn main() {
+fn main(rt: HostRuntime) {
+    let mut stdin = rt.stdin();
+    let mut stdout = rt.stdout();
+    let mut stderr = rt.stderr();
     let mut buffer = session::input_buffer();
-    let input = programs::read_input(b"setup", &mut buffer);
+    let input = programs::read_input(&rt, &mut stdin, &mut stderr, b"setup", &mut buffer);
     let n = input.count;
     let asked = input.asked;
     match asked {
-        Asked::File => write_file(&buffer[..n]),
-        Asked::Help => print_help(),
+        Asked::File => write_file(&mut stdout, &mut stderr, &buffer[..n]),
+        Asked::Help => print_help(&mut stdout, &mut stderr),
         Asked::Nothing => {}
     }
 }

@@ -1,2 +1,3 @@
--- What a call of `read` or `write` came to.
+-- What a call of `read` or `write` came to, and a count of bytes.
+pub mod Counts
 pub mod Steps

@@ -1,8 +1,9 @@
-// Whole streams: a descriptor read to its end into a lent buffer, and a text written whole, with
+// Whole streams: a reader read to its end into a lent buffer, and a text written whole, with
 // every failure told to the caller.
 //
-// What was read or written no contract can say. What is proved: each count lies within its buffer,
-// each call's answer is judged as `specs/Steps` says, and every loop ends, since the calls that move
+// Of a file or a standard stream no contract can say what was read or written. What is proved: each
+// count lies within its buffer, each call's answer is judged as `specs/Steps` says, of a reader or a
+// writer whose bytes are known which of them moved, and every loop ends, since the calls that move
 // nothing are counted down.
 #![tactic(auto)]
 

@@ -1,0 +1,2 @@
+-- A line that was put together is what is written of its buffer.
+pub mod Lines

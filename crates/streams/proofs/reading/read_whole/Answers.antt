@@ -1,0 +1,18 @@
+use Rattle.std.proofs.Common.{◌≡◌, ℕ, ◌+◌, ◌≤◌, List, ◌++◌, rules, length, take, sym, ap, ◌∙◌, subst, length-take-le}
+use Rattle.std.proofs.lemmas.List.{take-append-le}
+use Rattle.std.proofs.Math.Seq.{take-append-add}
+use Rattle.std.specs.Io.KnownBytes.{Consumes}
+use Rattle.std.proofs.KnownBytes.{Consumes-trans}
+use borrow.Rule.Slice.PartMut.{put_mid, post_of}
+use Rattle.streams.proofs.reading.read_whole.Goals as goal
+
+-- what was read before, and the first n bytes of the part that was read into
+read_so_far : (a k n : ℕ) (xs ys : List ℕ) → a ≤ length xs → n ≤ length ys → take (a + n) (put_mid a k xs ys) ≡ take a xs ++ take n ys
+read_so_far a k n xs ys within fits =
+    let after = post_of a k xs in
+    ap (λ m. take (m + n) (put_mid a k xs ys)) (sym (length-take-le a xs within)) ∙ take-append-add (take a xs) (ys ++ after) n ∙ ap (λ l. take a xs ++ l) (take-append-le n ys after fits)
+
+pub loop-done-preserved-in-Moved : goal.loop-done-preserved-in-Moved
+loop-done-preserved-in-Moved g c =
+    let front = read_so_far c.loop-done.done _ c.in-Moved.n c.loop-done.buf c.read_some-step.new.buf c.loop-done.invariant.0 c.in-Moved.ensures.within.1 in
+    (search rules, subst (Consumes _ _) (sym front) (Consumes-trans _ _ _ _ _ c.loop-done.invariant.1 c.in-Moved.ensures.bytes))

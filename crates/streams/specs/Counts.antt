@@ -1,0 +1,6 @@
+-- A count of the bytes at the start of a buffer.
+use Rattle.std.specs.Prelude.{ℕ, ◌≤◌, ◌≡◌, List, length, take}
+
+-- the first n bytes of xs are there, and are n bytes (which follows; a caller that takes them then owes nothing)
+abbrev pub IsPrefixLen : ℕ → List ℕ → Type 0
+IsPrefixLen n xs = (n ≤ length xs) × (n ≡ length (take n xs))
