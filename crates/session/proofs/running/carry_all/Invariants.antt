@@ -1,13 +1,8 @@
 -- `session::carry_all` meets its contract: the records left lead from the state reached to where all records lead. The bytes left become fewer.
 use Prim.Native.Nat.{◌-◌}
-use native.Mathlib.Omega.{arith}
-use mathlib.Core.Path.{◌≡◌, refl, ap, ◌∙◌}
+use mathlib.Core.Path.{◌≡◌}
 use lib.ListN.{length}
-use Rattle.reader.specs.declared.Step.{Step}
-use Rattle.reader.specs.File.Laws.{next_bounds}
-use Rattle.session.specs.declared.turn.Acted.{Acted}
-use Rattle.session.specs.Session.Laws.{count_small}
-use Rattle.session.proofs.Loops.{end, Answering, start_answering, answer, end_answering}
+use Rattle.session.proofs.Loops.{Answering}
 use Rattle.session.proofs.running.carry_all.Given as goal
 
 abbrev pub invariant-loop-at : goal.invariant-loop-at
