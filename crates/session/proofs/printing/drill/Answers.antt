@@ -11,7 +11,7 @@ use Rattle.session.proofs.printing.drill.Goals as goal
 pub returns-then-input-gt-LONGEST : goal.returns-then-input-gt-LONGEST
 unfolding printed_within printed_of
 returns-then-input-gt-LONGEST c =
-    rw (lt-ltb 65536 _ c.if-input-gt-LONGEST.true) (printed c.put_too_long.ensures.0 c.put_too_long.ensures.1)
+    rw (lt-ltb 65536 _ c.if-input-gt-LONGEST.true) (printed c.put_too_long.ensures.written c.put_too_long.ensures.upper_bound)
 
 pub returns-then-out-input : goal.returns-then-out-input
 unfolding printed_within printed_of
@@ -21,6 +21,6 @@ returns-then-out-input c =
 pub returns : goal.returns
 unfolding printed_within printed_of
 returns c =
-    let w = rw (c.reset.ensures.1 ∙ reset_fresh) at c.transcript.ensures.0 in
+    let w = rw (c.reset.ensures.left ∙ reset_fresh) at c.transcript.ensures.written in
     rw (le-ltb 65536 _ c.if-input-gt-LONGEST.false, le-ltb _ _ c.if-out-input.false)
-    (printed w (omega (arith, c.transcript.ensures.1, c.if-out-input.false)))
+    (printed w (omega (arith, c.transcript.ensures.upper_bound, c.if-out-input.false)))
