@@ -17,13 +17,12 @@ loop-at-smaller c =
     omega (arith, e, next_bounds c.args.file.now c.loop-at.at c.loop-at-test.true)
 
 pub loop-at-preserved : goal.loop-at-preserved
-loop-at-preserved c =
-    (
-      tell _ _ _ _ c.loop-at.invariant.0 c.loop-at-test.true c.read_record-step.ensures
-          (record { number_of_lem = ap (λ (x : Acted). x.number) c.act-acted.ensures.acted; left = c.act-acted.ensures.left; count = c.refusals_in-refused.ensures }) (ap (λ (x : Acted). x.line) c.act-acted.ensures.acted)
-          c.put_line-place.ensures.written c.put_line-place.ensures.upper_bound,
-      (c.act-acted.auto.words ∙ c.loop-at.invariant.1.0, c.act-acted.auto.numbers ∙ c.loop-at.invariant.1.1),
-    )
+loop-at-preserved c = (
+  tell _ _ _ _ c.loop-at.invariant.0 c.loop-at-test.true c.read_record-step.ensures
+      (record { number_of_lem = ap (λ (x : Acted). x.number) c.act-acted.ensures.acted; left = c.act-acted.ensures.left; count = c.refusals_in-refused.ensures }) (ap (λ (x : Acted). x.line) c.act-acted.ensures.acted)
+      c.put_line-place.ensures.written c.put_line-place.ensures.upper_bound,
+  (c.act-acted.auto.words ∙ c.loop-at.invariant.1.0, c.act-acted.auto.numbers ∙ c.loop-at.invariant.1.1),
+)
 
 pub returns : goal.returns
 returns c = record {
