@@ -5,7 +5,6 @@ use borrow.Author.Tests.{lt-ltb, le-ltb}
 use Rattle.desk.specs.Desk.Laws.{reset_fresh}
 use Rattle.session.specs.Printed.{printed_of, printed_within}
 use Rattle.session.proofs.Loops.{printed}
-use borrow.Author.Rules.{rules}
 use Rattle.session.proofs.printing.drill.Goals as goal
 
 pub returns-then-input-gt-LONGEST : goal.returns-then-input-gt-LONGEST
