@@ -1,14 +1,14 @@
 -- What `hand_on` comes to, in plain values: the words that a file leaves, their setup file, and room for it.
 use Prim.Native.Nat.{ℕ, ◌≤◌, ◌<◌}
 use native.Mathlib.Omega.{arith}
-use mathlib.Core.Path.{◌≡◌, refl, ap, ◌∙◌}
+use mathlib.Core.Path.{◌≡◌, refl, sym, ap, ◌∙◌}
 use mathlib.Core.List.{List}
 use lib.IntN.{ℤ}
 use lib.ListN.{length}
+use Rattle.std.proofs.Common.{length-take-le}
 use lib.Seq.{sets, length-sets}
 use borrow.Author.Tests.{lt-ltb, le-ltb}
-use Rattle.io.specs.Counts.{IsPrefixLen}
-use Rattle.io.proofs.Counting.{prefix_len_of_le}
+use Rattle.streams.specs.Counts.{IsPrefixLen}
 use Rattle.text.specs.Text.{Written}
 use Rattle.refusals.specs.declared.Refusal.{Refusal}
 use Rattle.desk.specs.Desk.{lent, reset_desk}
@@ -19,10 +19,13 @@ use Rattle.setups.specs.Setup.Laws.{setup_short, setup_fits}
 use Rattle.session.specs.Session.{left_of}
 use Rattle.setup.specs.Handing.{written_of}
 
+prefix : (n : ℕ) (xs : List ℕ) → n ≤ length xs → IsPrefixLen n xs
+prefix n xs h = (h, sym (length-take-le n xs h))
+
 -- of a file that is too long, nothing
 pub too_long : (file out : List ℕ) → 65536 < length file → Written out 0 (written_of file) out 0 × IsPrefixLen 0 out
 unfolding written_of
-too_long file out h = rw (lt-ltb 65536 (length file) h) (record { buffer = refl; place = refl }, prefix_len_of_le 0 out (omega arith))
+too_long file out h = rw (lt-ltb 65536 (length file) h) (record { buffer = refl; place = refl }, prefix 0 out (omega arith))
 
 -- of any other, the setup file of the words that it leaves
 pub record Handed (file out : List ℕ) (wrote : Wrote) (after : List ℕ) : Type 0 where
@@ -47,7 +50,7 @@ module _ (file out after : List ℕ) {wrote : Wrote} (h : Handed file out wrote 
   written n e =
       let same : n ≡ length (written_of file) = cc h.answer in
       let long : length after ≡ length out = ap (λ (l : List ℕ). length l) h.left ∙ length-sets out 0 (written_of file) in
-      (record { buffer = h.left; place = omega (arith, same) }, prefix_len_of_le n after (omega (arith, h.room)))
+      (record { buffer = h.left; place = omega (arith, same) }, prefix n after (omega (arith, h.room)))
 
   -- the writer refuses nothing
   pub never : (why : Refusal) → wrote ≡ Refused why → ⊥
