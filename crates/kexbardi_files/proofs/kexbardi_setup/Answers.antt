@@ -6,7 +6,6 @@ use lib.ListN.{length}
 use Rattle.setups.specs.declared.Wrote.{Wrote}
 use Rattle.setups.specs.Setup.{setup_answer, setup_left}
 use Rattle.kexbardi_files.specs.Files.{handed_by, setup_filled}
-use borrow.Author.Rules.{rules}
 use Rattle.kexbardi_files.proofs.kexbardi_setup.Goals as goal
 
 -- the writer's answer and the room behind it, as the call tells them

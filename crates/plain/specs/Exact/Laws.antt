@@ -1,6 +1,6 @@
 -- One sample in position form stands near the exact one: where the bias is within n units of the exact bias, the output is within n + 2 units
 -- of the exact output, and the next bias within n + 1 of the next exact bias.
-use Rattle.std.specs.Prelude.{ℕ, ◌+◌, ◌*◌, ◌≤◌, ◌<◌, ◌≡◌, refl, Bool, true, false, ◌&&◌, ◌⊎◌, T, ℤ, pos, neg_ℤ, ◌+ℤ◌, ◌-ℤ◌, ◌≤ℤ◌}
+use Rattle.std.specs.Prelude.{ℕ, ◌+◌, ◌*◌, ◌≤◌, ◌≡◌, refl, Bool, true, false, ◌&&◌, ◌⊎◌, T, ℤ, pos, neg_ℤ, ◌+ℤ◌, ◌-ℤ◌, ◌≤ℤ◌}
 use Rattle.std.proofs.Common.{arith, inl, inr, lit<}
 use Rattle.std.proofs.Math.Bool.{not}
 use Rattle.std.specs.Int.Signed.{lt_z}

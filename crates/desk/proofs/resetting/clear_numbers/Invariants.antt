@@ -1,10 +1,8 @@
 -- `desk::clear_numbers` meets its contract.
 use lib.IntN.{pos}
-use Rattle.desk.proofs.Clearing.{Cleared, clear_one, cleared}
-use lib.ListN.{length, length-set}
+use Rattle.desk.proofs.Clearing.{Cleared}
+use lib.ListN.{length}
 use Prim.Native.Nat.{◌-◌}
-use mathlib.Core.Path.{refl}
-use native.Mathlib.Omega.{arith}
 use Rattle.desk.proofs.resetting.clear_numbers.Given as goal
 
 abbrev pub invariant-loop-i : goal.invariant-loop-i

@@ -1,9 +1,7 @@
 -- `desk::clear_words` meets its contract.
-use Rattle.desk.proofs.Clearing.{Cleared, clear_one, cleared}
-use lib.ListN.{length, length-set}
+use Rattle.desk.proofs.Clearing.{Cleared}
+use lib.ListN.{length}
 use Prim.Native.Nat.{◌-◌}
-use mathlib.Core.Path.{refl}
-use native.Mathlib.Omega.{arith}
 use Rattle.desk.proofs.resetting.clear_words.Given as goal
 
 abbrev pub invariant-loop-i : goal.invariant-loop-i

@@ -1,5 +1,4 @@
 -- `numbers::distance` meets its contract: each arm rewrites with the test that led there.
-use borrow.Author.Rules.{rules}
 use borrow.Author.Tests.{lt-ltb, le-ltb}
 use Rattle.numbers.specs.Distances.{apart}
 use Rattle.numbers.proofs.distances.distance.Goals as goal

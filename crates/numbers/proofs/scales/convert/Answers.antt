@@ -1,9 +1,6 @@
 -- `numbers::convert` meets its contract: two words multiply to what fits, and what is below the upper scale is a word.
-use borrow.Author.Rules.{rules}
-use Prim.Native.Nat.{◌*◌, ◌≤◌}
 use native.Mathlib.Omega.{arith}
 use Rattle.numbers.specs.Scales.{converted}
-use Rattle.numbers.proofs.Machine.{word_product}
 use Rattle.numbers.proofs.scales.convert.Goals as goal
 
 pub returns-then-nearest-to : goal.returns-then-nearest-to
