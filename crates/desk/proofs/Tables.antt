@@ -48,7 +48,7 @@ use Rattle.desk.specs.declared.sampling.Sampled.TheVariants.{Shown}
 use Rattle.desk.specs.declared.sampling.Sampled.TheVariants.{Refused as Unshown}
 use Rattle.desk.specs.declared.forecasting.Foretold.{Foretold}
 use Rattle.desk.specs.declared.forecasting.Foretold.TheVariants.{Samples}
-use Rattle.desk.specs.declared.forecasting.Foretold.TheVariants.{Refused as None}
+use Rattle.desk.specs.declared.forecasting.Foretold.TheVariants.{Refused as Unforetold}
 use Rattle.desk.specs.Lists.{Call, reset, store, sample, answer_to, desk_after, Plains, begun_all, sampled_all, fed}
 
 -- ---- lists of calls
@@ -288,7 +288,7 @@ testing =
 
 foretold : Foretold → List ℕ
 foretold (Samples n) = 0 ∷ n ∷ []
-foretold (None why) = number_of_refusal why ∷ []
+foretold (Unforetold why) = number_of_refusal why ∷ []
 
 -- X1's loop in Automatic with bit 11 on, setpoint 1,000 and a table at 512: to 1,010 by 1.00 a second, a soak of 0.1 minute, and a ramp of slope 0.00
 profiled : ℕ → ℕ → Desk

@@ -28,7 +28,7 @@ use Rattle.desk.specs.declared.sampling.Sampled.TheVariants.{Shown}
 use Rattle.desk.specs.declared.sampling.Sampled.TheVariants.{Refused as Unshown}
 use Rattle.desk.specs.declared.forecasting.Foretold.{Foretold}
 use Rattle.desk.specs.declared.forecasting.Foretold.TheVariants.{Samples}
-use Rattle.desk.specs.declared.forecasting.Foretold.TheVariants.{Refused as None}
+use Rattle.desk.specs.declared.forecasting.Foretold.TheVariants.{Refused as Unforetold}
 pub mod Laws
 
 -- W1, H4: the lent words, and the lent numbers of the carried records
@@ -186,7 +186,7 @@ remaining_of d k =
 
 abbrev pub counted_by : Answer → ℕ → Foretold
 counted_by Accepted n = Samples n
-counted_by (Refused why) n = None why
+counted_by (Refused why) n = Unforetold why
 
 -- Q11: refused as a sample with raw PV 0 is; else the samples that remain
 unfoldable pub forecast_at : Desk → ℕ → Foretold
