@@ -1,6 +1,6 @@
 -- What a record in range (H1) is known to be: the premise of the engine, and what it leaves again (H2).
 use Rattle.std.specs.Prelude.{◌*◌, ◌^◌, ◌≤◌, pos, nat_abs, ◌≤ℤ◌}
-use Rattle.profile.specs.Moves.Laws.{Within}
+use Rattle.profile.specs.Premises.{Within}
 use Rattle.carried.specs.declared.record.Carried.{Carried}
 
 pub record Ranged (c : Carried) : Type 0 where

@@ -15,14 +15,14 @@ use Rattle.refusals.specs.declared.Refusal.TheVariants.{Record}
 use Rattle.refusals.specs.Refusals.{number_of_refusal, number_of, Case, first_of}
 use Rattle.refusals.specs.Refusals.Laws.{in_table, accepted_only, Each, first_of_kind}
 use Rattle.table.specs.Words.Laws.{and_true}
-use Rattle.reading.specs.Reading.Laws.{Reads, reads}
+use Rattle.reading.proofs.Laws.Reading.{Reads, reads}
 use Rattle.carried.specs.Former.{former_of}
 use Rattle.carried.specs.Layout.{Rows, number_count, slot_of, numbers_at, carried_at, out_of_range}
 use Rattle.carried.specs.Layout.Laws.{rows_in, in_rows}
 use Rattle.desk.specs.Desk.{Desk, lent, fitting_of, memory_cases, no_loop, reset_answer, reset_left, engine_word, store_cases, store_answer, store_left, reading_at, sample_cases, sample_answer, remaining_of, counted_by, forecast_at, copied_by, fields_answer, fields_left}
-use Rattle.desk.specs.Desk.Laws.{sound, there_loop, reset_sound, reset_numbers}
+use Rattle.desk.proofs.Laws.Desk.{sound, there_loop, reset_sound, reset_numbers}
 use Rattle.desk.specs.Lists.{Call, reset, store, sample, answer_to, desk_after}
-use Rattle.desk.specs.Lists.Laws.{refused_call, unfit}
+use Rattle.desk.proofs.Laws.Lists.{refused_call, unfit}
 use Rattle.kexbardi.specs.Interface.{line_left}
 use Rattle.kexbardi_profiles.specs.Told.{told_by}
 use Rattle.setups.specs.Setup.{setup_of, setup_answer, setup_left}

@@ -12,7 +12,7 @@ use lib.ListN.{length, get_or}
 use lib.Signed.{◌≤ℤ◌}
 use Rattle.numbers.specs.Whole.{linear}
 use Rattle.numbers.specs.Roots.{Nearest}
-use Rattle.numbers.specs.Roots.Laws.{root_exact}
+use Rattle.numbers.proofs.Laws.Roots.{root_exact}
 use Rattle.refusals.specs.Decides.{Decides, in_words, so, not_so, is_true, is_false, is_less, is_same, is_not, is_or, is_both}
 use Rattle.refusals.specs.Refusals.{number_of, OneOf, FirstIn}
 use Rattle.refusals.specs.Refusals.Laws.{Tests, done, tests, first_reported, first_alone}
@@ -26,12 +26,12 @@ use Rattle.table.specs.declared.mode.Mode.TheVariants.{Manual, Automatic, Cascad
 use Rattle.reading.specs.declared.transfer.Major.{Major}
 use Rattle.table.specs.Modes.{is_automatic, is_cascade}
 use Rattle.reading.specs.Transfers.{transfers, major_of, major_in}
-use Rattle.reading.specs.Transfers.Laws.{IsMajor, major_found, major_read}
+use Rattle.reading.proofs.Laws.Transfers.{IsMajor, major_found, major_read}
 use Rattle.reading.specs.Settings.{unused_bits}
 use Rattle.reading.specs.Programs.{any_below, bad_digit_in, high_end_in}
-use Rattle.reading.specs.Programs.Laws.{none_below, good_address, address_good, program_on, program_there, program_tested}
+use Rattle.reading.proofs.Laws.Programs.{none_below, good_address, address_good, program_on, program_there, program_tested}
 use Rattle.reading.specs.Reading.{mode_after, remote_of, reading_of}
-use Rattle.reading.specs.Reading.Laws.{Reads, input_scale}
+use Rattle.reading.proofs.Laws.Reading.{Reads, input_scale}
 use Rattle.carried.specs.Layout.{Rows, mode_from, record_from, slot_of, out_of_range, numbers_at, carried_at}
 use Rattle.carried.specs.Former.{former_of}
 use Rattle.carried.specs.Layout.Laws.{rows_in, in_rows}

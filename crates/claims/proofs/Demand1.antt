@@ -12,9 +12,9 @@ use lib.Seq.{sets, get_or-set_same, get_or-set_other}
 use borrow.Author.Tests.{ne_eqb, lt-ltb, le-ltb, ltb-false}
 use Rattle.reader.specs.declared.Record.{Record}
 use Rattle.reader.specs.File.{word_at, whole_at, record_at, records_from, records_of}
-use Rattle.reader.specs.File.Laws.{covered, spans_length, cut_at, whole_at_lem, cut_last, by_records, every_record, records_step, spans_step, records_end}
+use Rattle.reader.proofs.Laws.File.{covered, spans_length, cut_at, whole_at_lem, cut_last, by_records, every_record, records_step, spans_step, records_end}
 use Rattle.desk.specs.Desk.{Desk, fitting_of, reset_desk}
-use Rattle.desk.specs.Desk.Laws.{reset_fits, reset_numbers}
+use Rattle.desk.proofs.Laws.Desk.{reset_fits, reset_numbers}
 use Rattle.desk.specs.Lists.{store, sample}
 use Rattle.lines.specs.Lines.{line_text, last_text}
 use Rattle.session.specs.Session.{number_for, left_for, shown_for, State, begun, after, run_of, answers_for, refusals_in, ended_of, left_of, answers_of}

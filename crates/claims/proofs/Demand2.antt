@@ -18,7 +18,7 @@ use Rattle.table.specs.Words.Laws.{block_at_lem, block_length}
 use Rattle.reading.specs.Reading.{reading_of}
 use Rattle.measuring.specs.Measuring.{measured_of}
 use Rattle.carried.specs.Former.{former_of}
-use Rattle.reading.specs.Reading.Laws.{numbered, reading_own}
+use Rattle.reading.proofs.Laws.Reading.{numbered, reading_own}
 use Rattle.carried.specs.declared.record.Carried.{Carried}
 use Rattle.carried.specs.Layout.{slot_of, out_of_range, record_from, numbers_of, numbers_at, carried_at}
 use Rattle.carried.specs.Layout.Laws.{rows_in, in_rows, read_back}
@@ -31,8 +31,8 @@ use Rattle.engine.specs.Writing.Laws.{Both, written_both}
 use Rattle.engine.specs.Steps.{step_of}
 use Rattle.reader.specs.File.{records_of}
 use Rattle.desk.specs.Desk.{Desk, fitting_of, left_by, reading_at, step_at, marks, sample_done, sample_answer, sample_left, line_of, pv_at}
-use Rattle.desk.specs.Desk.Laws.{sound, sampled, answer_ranged, done_lengths, major_there, own_numbers, own_words, own_block, major_word, other_words, other_numbers, marked_numbers}
-use Rattle.desk.specs.Lists.Laws.{by_answer, range_kept, range_behind}
+use Rattle.desk.proofs.Laws.Desk.{sound, sampled, answer_ranged, done_lengths, major_there, own_numbers, own_words, own_block, major_word, other_words, other_numbers, marked_numbers}
+use Rattle.desk.proofs.Laws.Lists.{by_answer, range_kept, range_behind}
 use Rattle.session.specs.Session.{begun as started, calls_of, left_of}
 use Rattle.session.specs.Session.Laws.{run_desk}
 use Rattle.kexbardi.specs.Interface.{line_left}

@@ -14,10 +14,10 @@ use Rattle.table.specs.Modes.{is_manual}
 use Rattle.engine.specs.declared.sensing.Sensed.{Sensed}
 use Rattle.engine.specs.Sensing.{sensed_of}
 use Rattle.plain.specs.Plain.{Plain, count_after, exact_moved, plain_after, tolerance}
-use Rattle.plain.specs.Plain.Laws.{within_one}
+use Rattle.plain.proofs.Laws.Plain.{within_one}
 use Rattle.desk.specs.Desk.{Desk, fitting_of}
 use Rattle.desk.specs.Lists.{Call, reset, store, sample, answer_to, desk_behind, Plains, begun_all, fed, Claim}
-use Rattle.desk.specs.Lists.Laws.{unfit, plains_append}
+use Rattle.desk.proofs.Laws.Lists.{unfit, plains_append}
 use Rattle.desk.proofs.Accuracy.{TiedAll, all_begun}
 use Rattle.desk.proofs.Accuracy as accuracy
 use Rattle.session.specs.Session.{begun as started, run_of, calls_of, left_of}

@@ -14,9 +14,9 @@ use Rattle.numbers.specs.Limits.Laws.{clamp_low, clamp_high}
 use Rattle.numbers.specs.Distances.{apart}
 use Rattle.numbers.specs.Distances.Laws.{apart_is}
 use Rattle.numbers.specs.Rounding.{units_of}
-use Rattle.numbers.specs.Rounding.Laws.{half_up_high}
+use Rattle.numbers.proofs.Laws.Rounding.{half_up_high}
 use Rattle.numbers.specs.Scales.{converted}
-use Rattle.numbers.specs.Scales.Laws.{converted_high, converted_mono, converted_tie, converted_near, converted_zero, converted_full, converted_no_tie}
+use Rattle.numbers.proofs.Laws.Scales.{converted_high, converted_mono, converted_tie, converted_near, converted_zero, converted_full, converted_no_tie}
 use Rattle.refusals.specs.Refusals.{number_of}
 use Rattle.refusals.specs.Refusals.Laws.{accepted_only}
 use Rattle.table.specs.declared.format.Format.{Format}
@@ -35,11 +35,11 @@ use Rattle.engine.specs.Sensing.{error_in, sensed_of}
 use Rattle.engine.specs.Driving.{kept_in, past_of, driven_of}
 use Rattle.engine.specs.Writing.{bias_word, status_word, written_of, next_of}
 use Rattle.engine.specs.Steps.{step_of}
-use Rattle.engine.specs.Steps.Laws.{drivable, sensed_scaled, stepped_ranged}
+use Rattle.engine.proofs.Laws.Steps.{drivable, sensed_scaled, stepped_ranged}
 use Rattle.engine.proofs.Limits.{word_inside}
-use Rattle.plain.specs.Plain.Laws.{start_tied, sample_good}
+use Rattle.plain.proofs.Laws.Plain.{start_tied, sample_good}
 use Rattle.desk.specs.Desk.{Desk, reading_at, sample_answer}
-use Rattle.desk.specs.Desk.Laws.{Sampled, sampled}
+use Rattle.desk.proofs.Laws.Desk.{Sampled, sampled}
 use Rattle.claims.specs.Formats.{Conversion, full_by, output_count, Formats}
 use Rattle.claims.specs.Words.{word_of, word_left, input_full, output_full}
 use Rattle.claims.proofs.Calls.{by_words}

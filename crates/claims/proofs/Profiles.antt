@@ -14,18 +14,18 @@ use Rattle.table.specs.Words.{bit}
 use Rattle.table.specs.Words.Laws.{and_true}
 use Rattle.table.specs.Modes.{is_automatic, is_cascade}
 use Rattle.reading.specs.Programs.{fault_of}
-use Rattle.reading.specs.Programs.Laws.{program_on, program_fault}
+use Rattle.reading.proofs.Laws.Programs.{program_on, program_fault}
 use Rattle.reading.specs.Reading.{reading_of}
-use Rattle.reading.specs.Reading.Laws.{no_transfer}
+use Rattle.reading.proofs.Laws.Reading.{no_transfer}
 use Rattle.profile.specs.declared.state.Profile.{Profile}
 use Rattle.profile.specs.declared.state.Moved.{Moved}
 use Rattle.profile.specs.declared.moves.Command.{Command}
 use Rattle.profile.specs.declared.moves.Command.TheVariants.{Start, Hold, Resume, Jog, Nothing}
 use Rattle.profile.specs.Moves.{command_of, with_hold, handed_over, jogged_of, moved_by, worked_by, advanced_by}
-use Rattle.profile.specs.Moves.Laws.{advanced_stays}
+use Rattle.profile.proofs.Laws.Moves.{advanced_stays}
 use Rattle.profile.specs.Flags.{is_soak, deviates, flag_of, flags_of}
 use Rattle.profile.specs.Samples.{sampled_by}
-use Rattle.profile.specs.Forecasts.Laws.{none_left, one_less}
+use Rattle.profile.proofs.Laws.Forecasts.{none_left, one_less}
 use Rattle.carried.specs.Former.{former_of}
 use Rattle.carried.specs.Layout.{carried_at}
 use Rattle.engine.specs.Sensing.{setpoint_of, target_of, profiled_of, fault_after, sensed_of}

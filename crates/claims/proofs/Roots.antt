@@ -7,7 +7,7 @@ use mathlib.Core.Bool.{true, false}
 use mathlib.Core.List.{◌++◌}
 use borrow.Author.Tests.{ltb-false}
 use Rattle.numbers.specs.Roots.{Nearest}
-use Rattle.numbers.specs.Roots.Laws.{root_exact, root_no_tie, root_only, root_order, square_root}
+use Rattle.numbers.proofs.Laws.Roots.{root_exact, root_no_tie, root_only, root_order, square_root}
 use Rattle.refusals.specs.declared.Answer.TheVariants.{Accepted}
 use Rattle.refusals.specs.Refusals.{number_of}
 use Rattle.refusals.specs.Refusals.Laws.{accepted_only, accepted_rest}

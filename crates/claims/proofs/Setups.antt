@@ -16,10 +16,10 @@ use Rattle.reader.specs.declared.Record.{Record}
 use Rattle.reader.specs.declared.Record.TheVariants.{Store}
 use Rattle.reader.specs.File.{records_of}
 use Rattle.desk.specs.Desk.{lent, engine_word, reset_desk}
-use Rattle.desk.specs.Desk.Laws.{reset_fits, reset_numbers}
+use Rattle.desk.proofs.Laws.Desk.{reset_fits, reset_numbers}
 use Rattle.desk.specs.Lists.{answer_to, desk_after}
 use Rattle.setups.specs.Setup.{handed_on, bytes_from, setup_of, stores_from}
-use Rattle.setups.specs.Setup.Laws.{rebuilt_from, bytes_below, bytes_length, setup_short, setup_read, rebuilt_length, rebuilt_at, rebuilt_bytes}
+use Rattle.setups.proofs.Laws.Setup.{rebuilt_from, bytes_below, bytes_length, setup_short, setup_read, rebuilt_length, rebuilt_at, rebuilt_bytes}
 use Rattle.session.specs.declared.running.Ended.TheVariants.{Counts}
 use Rattle.session.specs.Session.{State, state, begun, after, run_of, ended_of, left_of}
 use Rattle.claims.specs.Calls.{Reserved}

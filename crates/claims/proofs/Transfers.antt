@@ -13,18 +13,18 @@ use Rattle.reading.specs.declared.reading.Reading.{Reading}
 use Rattle.table.specs.Words.Laws.{and_true, output_scaled}
 use Rattle.table.specs.Modes.{is_manual, is_automatic, is_cascade}
 use Rattle.reading.specs.Transfers.{transfers}
-use Rattle.reading.specs.Transfers.Laws.{major_found, major_none}
+use Rattle.reading.proofs.Laws.Transfers.{major_found, major_none}
 use Rattle.reading.specs.Reading.{remote_of, reading_of}
 use Rattle.carried.specs.declared.record.State.{State}
 use Rattle.carried.specs.Layout.{carried_at}
 use Rattle.engine.specs.Sensing.{setpoint_of, changed, entering, target_of, profiled_of, sensed_of}
-use Rattle.engine.specs.Sensing.Laws.{settled_error}
+use Rattle.engine.proofs.Laws.Sensing.{settled_error}
 use Rattle.engine.specs.Driving.{held_of}
 use Rattle.engine.specs.Writing.{written_of, next_of}
 use Rattle.engine.specs.Steps.{step_of}
-use Rattle.engine.specs.Steps.Laws.{entry_output}
+use Rattle.engine.proofs.Laws.Steps.{entry_output}
 use Rattle.desk.specs.Desk.{Desk, reading_at, sample_answer, pv_at}
-use Rattle.desk.specs.Desk.Laws.{sampled}
+use Rattle.desk.proofs.Laws.Desk.{sampled}
 use Rattle.claims.specs.Calls.{transfer_at}
 use Rattle.claims.specs.Words.{word_of, output_full}
 use Rattle.claims.specs.Transfers.{Bumpless, Transferred}

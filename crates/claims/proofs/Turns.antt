@@ -10,8 +10,8 @@ use lib.Seq.{take-append-le, drop-append-le}
 use Rattle.reader.specs.File.{records_of}
 use Rattle.carried.specs.Layout.{field_count, slot_of, numbers_at}
 use Rattle.desk.specs.Desk.{Desk, fitting_of}
-use Rattle.desk.specs.Desk.Laws.{sound}
-use Rattle.desk.specs.Lists.Laws.{refused_call, unfit, numbers_kept, numbers_behind}
+use Rattle.desk.proofs.Laws.Desk.{sound}
+use Rattle.desk.proofs.Laws.Lists.{refused_call, unfit, numbers_kept, numbers_behind}
 use Rattle.session.specs.Session.{begun, calls_of, left_of}
 use Rattle.session.specs.Session.Laws.{run_desk}
 use Rattle.claims.specs.Turns.{Made, one, file, Turn, found, made_left, behind}

@@ -15,7 +15,7 @@ use Rattle.carried.specs.Ranged.{Ranged}
 use Rattle.engine.specs.Steps.{step_of}
 use Rattle.engine.specs.Premises.{Usable}
 use Rattle.plain.specs.Plain.{Plain, begun, plain_after}
-use Rattle.plain.specs.Plain.Laws.{Tied, Good}
+use Rattle.plain.specs.Premises.{Tied, Good}
 use Rattle.desk.specs.Desk.{Desk, reading_at, step_at, sample_answer}
 use Rattle.claims.specs.Words.{word_of, word_left, input_full, output_full}
 

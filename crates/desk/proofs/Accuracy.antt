@@ -12,15 +12,16 @@ use Rattle.refusals.specs.declared.Answer.TheVariants.{Accepted, Refused}
 use Rattle.refusals.specs.Refusals.Laws.{never}
 use Rattle.table.specs.Words.{base_of}
 use Rattle.reading.specs.Reading.{reading_of}
-use Rattle.reading.specs.Reading.Laws.{reads}
+use Rattle.reading.proofs.Laws.Reading.{reads}
 use Rattle.carried.specs.declared.record.State.{State}
 use Rattle.measuring.specs.Measuring.{measured_of}
 use Rattle.carried.specs.Former.{former_of}
 use Rattle.carried.specs.Layout.{carried_at, marked_record}
 use Rattle.plain.specs.Plain.{plain_after, plain_marked}
-use Rattle.plain.specs.Plain.Laws.{Tied, Good, start_tied, mark_tied, sample_good}
+use Rattle.plain.specs.Premises.{Tied, Good}
+use Rattle.plain.proofs.Laws.Plain.{start_tied, mark_tied, sample_good}
 use Rattle.desk.specs.Desk.{Desk, reset_left, store_left, reading_at, marks, sample_done, sample_answer, sample_left}
-use Rattle.desk.specs.Desk.Laws.{Sampled, sampled, own_words, own_record, other_record}
+use Rattle.desk.proofs.Laws.Desk.{Sampled, sampled, own_words, own_record, other_record}
 use Rattle.desk.specs.Lists.{Call, reset, store, sample, answer_to, desk_after, desk_behind, Plains, begun_all, read_by, sampled_all, fed_by, fed, plains_behind, Claim, Holds}
 
 -- the records of the sixteen loops, each tied to its plain loop

@@ -29,7 +29,6 @@ use Rattle.desk.specs.declared.sampling.Sampled.TheVariants.{Refused as Unshown}
 use Rattle.desk.specs.declared.forecasting.Foretold.{Foretold}
 use Rattle.desk.specs.declared.forecasting.Foretold.TheVariants.{Samples}
 use Rattle.desk.specs.declared.forecasting.Foretold.TheVariants.{Refused as Unforetold}
-pub mod Laws
 
 -- W1, H4: the lent words, and the lent numbers of the carried records
 pub record Desk : Type 0 where

@@ -9,9 +9,8 @@ use Rattle.measuring.specs.Measuring.{measured_of}
 use Rattle.carried.specs.Former.{former_of}
 use Rattle.carried.specs.Layout.{carried_at}
 use Rattle.plain.specs.Plain.{Plain, begun, plain_after, plain_marked}
-use Rattle.plain.specs.Plain.Laws.{Good}
+use Rattle.plain.specs.Premises.{Good}
 use Rattle.desk.specs.Desk.{Desk, marks, reset_answer, reset_left, store_answer, store_left, sample_answer, sample_left}
-pub mod Laws
 
 -- E1: a reset; a value stored at an address; a sample of a loop with a raw PV
 pub data Call : Type 0 where

@@ -5,12 +5,12 @@ use mathlib.Core.Bool.{Bool, true, false}
 use lib.Dec.{lit<}
 use lib.IntN.{ℤ}
 use Rattle.numbers.specs.Whole.{linear, abs}
-use Rattle.numbers.specs.Rounding.Laws.{half_up_low, half_up_high}
+use Rattle.numbers.proofs.Laws.Rounding.{half_up_low, half_up_high}
 use Rattle.reading.specs.declared.settings.Settings.{Settings}
 use Rattle.control.specs.declared.forms.Drive.{Drive}
 use Rattle.carried.specs.declared.record.Past.{Past}
 use Rattle.engine.specs.Driving.{held_of, moved_of}
-use Rattle.engine.specs.Driving.Laws.{held_low, held_high, moved_inside}
+use Rattle.engine.proofs.Laws.Driving.{held_low, held_high, moved_inside}
 use Rattle.engine.specs.Writing.{output_word}
 use Rattle.engine.specs.Premises.{Movable}
 

@@ -15,7 +15,6 @@ use Rattle.control.specs.Forms.{position_of, velocity_of}
 use Rattle.carried.specs.declared.record.Past.{Past}
 use Rattle.carried.specs.declared.record.Carried.{Carried}
 use Rattle.engine.specs.declared.sensing.Sensed.{Sensed}
-pub mod Laws
 
 -- A4, A10: word 5 brought inside the output limits
 unfoldable pub held_of : Settings → ℕ

@@ -4,7 +4,7 @@ use Rattle.std.specs.Prelude.{ℕ, ◌^◌, ◌≤◌, ◌<◌, not, ◌||◌, �
 use Rattle.numbers.specs.Rounding.{units_of}
 use Rattle.reading.specs.declared.settings.Settings.{Settings}
 use Rattle.reading.specs.declared.reading.Reading.{Reading}
-use Rattle.reading.specs.Programs.Laws.{Fair}
+use Rattle.reading.specs.Premises.{Fair}
 use Rattle.control.specs.declared.forms.Drive.{Drive}
 use Rattle.control.specs.Counts.Laws.{Matched}
 use Rattle.control.specs.Premises.{Tuned}

@@ -13,7 +13,6 @@ use Rattle.profile.specs.declared.sampling.Profiled.{Profiled}
 use Rattle.profile.specs.Samples.{sampled_by}
 use Rattle.carried.specs.declared.record.State.{State}
 use Rattle.engine.specs.declared.sensing.Sensed.{Sensed}
-pub mod Laws
 
 -- A1 is `measured_of` of measuring: every definition below is given p
 -- A2 is `mode_after` of the table: the reading has the mode that it gives

@@ -6,7 +6,6 @@ use Rattle.engine.specs.declared.stepping.Stepped.{Stepped}
 use Rattle.engine.specs.Sensing.{sensed_of}
 use Rattle.engine.specs.Driving.{held_of, driven_of}
 use Rattle.engine.specs.Writing.{written_of, next_of}
-pub mod Laws
 
 -- A2 to A12: the words and the record that a sample with the PV p leaves
 unfoldable pub step_of : Reading → Carried → ℕ → Stepped

@@ -3,7 +3,7 @@
 ghost use Rattle.std.specs.Prelude.{◌≡◌, ◌&&◌, ◌≤◌, ◌<◌};
 ghost use Rattle.engine.specs.Sensing.{setpoint_of, changed, entering, runs_on, target_of, profiled_of, fault_after, error_in, sensed_of};
 ghost use Rattle.table.specs.Modes.{is_manual};
-ghost use Rattle.profile.specs.Moves.Laws.{Within};
+ghost use Rattle.profile.specs.Premises.{Within};
 
 use carried::State;
 use profile::{Profile, Profiled};

@@ -4,7 +4,6 @@ use Rattle.std.proofs.Common.{arith, mul-pos}
 use Rattle.std.specs.Int.Signed.{lt_z}
 use Rattle.numbers.specs.Limits.{clamp_by}
 use Rattle.numbers.specs.Rounding.{half_away}
-pub mod Laws
 
 pub record Fraction : Type 0 where
   pub num : ℤ

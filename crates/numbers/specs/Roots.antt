@@ -1,6 +1,5 @@
 -- The square root to the nearest whole number (A1), of a number below 2 ^ 32.
 use Rattle.std.specs.Prelude.{ℕ, zero, suc, ◌+◌, ◌*◌, ◌/◌, ◌≤◌, ◌<◌, cond, leb}
-pub mod Laws
 pub mod Newton
 
 -- the greatest number whose square is at most v, of v below 4 ^ digits, a binary digit at a time: that of v / 4 doubled, and 1 added

@@ -1,6 +1,5 @@
 -- A quotient rounded to a whole number (A7, A10), for any divisor above 0, and the units that the engine carries (H2).
 use Rattle.std.specs.Prelude.{ℕ, ◌+◌, ◌*◌, ◌/◌, ℤ, pos, negsuc, neg_ℤ, nat_abs}
-pub mod Laws
 
 -- A10: n / d to the nearest whole number, a half up
 unfoldable pub half_up : ℕ → ℕ → ℕ

@@ -14,7 +14,6 @@ use Rattle.engine.specs.declared.sensing.Sensed.{Sensed}
 use Rattle.engine.specs.Sensing.{sensed_of}
 use Rattle.engine.specs.Driving.{held_of}
 use Rattle.plain.specs.Exact.{in_counts, exact_output, exact_bias}
-pub mod Laws
 
 -- E3: mode, form, profile and mark (its state), the last PV, the bias B and the number n; and the last exact output (E5)
 pub record Plain : Type 0 where

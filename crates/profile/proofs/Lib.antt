@@ -1,3 +1,4 @@
 -- A profile computed.
+pub mod Laws
 pub mod Examples
 pub mod Tables

@@ -5,7 +5,6 @@ use Rattle.reading.specs.declared.program.Pair.{Pair}
 use Rattle.reading.specs.Programs.{pair_at, pair_number}
 use Rattle.profile.specs.declared.state.Profile.{Profile}
 use Rattle.profile.specs.Moves.{parts_of}
-pub mod Laws
 
 -- the samples that a way takes by steps: at least one, and as many as cover it
 unfoldable pub count_of : ℕ → ℕ → ℕ

@@ -3,3 +3,4 @@ pub mod Moves
 pub mod Flags
 pub mod Samples
 pub mod Forecasts
+pub mod Premises

@@ -7,7 +7,6 @@ use Rattle.profile.specs.declared.state.Profile.{Profile}
 use Rattle.profile.specs.declared.state.Moved.{Moved}
 use Rattle.profile.specs.declared.moves.Command.{Command}
 use Rattle.profile.specs.declared.moves.Command.TheVariants.{Start, Hold, Resume, Jog, Nothing}
-pub mod Laws
 
 -- G5: of bits 0 to 3 of word 27 the lowest one that is on
 unfoldable pub command_of : ℕ → Command

@@ -1,6 +1,6 @@
 // One sample of a loop's profile, outside Cascade (G4 to G10): profile and setpoint after it, and word 27.
 ghost use Rattle.std.specs.Prelude.{◌≡◌, ◌≤◌};
-ghost use Rattle.profile.specs.Moves.Laws.{Within};
+ghost use Rattle.profile.specs.Premises.{Within};
 ghost use Rattle.profile.specs.Samples.{sampled_by};
 
 use crate::flags::flags_word;

@@ -6,7 +6,6 @@ use Rattle.refusals.specs.declared.Refusal.TheVariants.{Cut, Kind, Length}
 use Rattle.reader.specs.declared.Record.{Record}
 use Rattle.reader.specs.declared.Record.TheVariants.{Store, Sample, Refused}
 use Rattle.reader.specs.declared.Step.{Step}
-pub mod Laws
 
 -- L1: a number of two bytes, the low one first
 abbrev pub word_at : List ℕ → ℕ → ℕ

@@ -1,3 +1,4 @@
 -- What a sample reads, computed.
+pub mod Laws
 pub mod Examples
 pub mod Tables

@@ -3,3 +3,4 @@ pub mod Settings
 pub mod Programs
 pub mod Transfers
 pub mod Reading
+pub mod Premises

@@ -3,7 +3,6 @@ use Rattle.std.specs.Prelude.{ℕ, zero, suc, ◌+◌, ◌-◌, ◌*◌, ◌/◌
 use Rattle.reading.specs.declared.program.Pair.{Pair}
 use Rattle.reading.specs.declared.program.Program.{Program}
 use Rattle.table.specs.Words.{bcd, bad_digit, block_at}
-pub mod Laws
 
 -- G2: 1 for a table's address below 512, 2 for one above 992, else 0
 unfoldable pub fault_of : ℕ → ℕ

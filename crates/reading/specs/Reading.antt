@@ -11,7 +11,6 @@ use Rattle.table.specs.Modes.{is_cascade}
 use Rattle.reading.specs.Settings.{settings_of}
 use Rattle.reading.specs.Transfers.{transfers, major_in}
 use Rattle.reading.specs.Programs.{program_of}
-pub mod Laws
 
 -- A2: the lowest request bit that is on names the mode; with all three off the former one goes on
 unfoldable pub mode_after : Mode1 → Mode → Mode

@@ -5,7 +5,6 @@ use Rattle.reading.specs.declared.settings.OutputLimits.{OutputLimits}
 use Rattle.reading.specs.declared.transfer.Major.{Major}
 use Rattle.table.specs.Words.{base_of}
 use Rattle.table.specs.Modes.{is_automatic, is_cascade}
-pub mod Laws
 
 -- A13: the carried mode is Automatic, the sample's is Cascade, and bit 3 of mode 1 is off
 unfoldable pub transfers : Mode → Mode → Bool → Bool

@@ -12,7 +12,7 @@ use Rattle.text.specs.Text.Laws.{sets_append, take_sets}
 use Rattle.reader.specs.declared.Record.{Record}
 use Rattle.reader.specs.declared.Step.{Step}
 use Rattle.reader.specs.File.{record_at, records_from, records_of}
-use Rattle.reader.specs.File.Laws.{next_bounds, records_step, records_end}
+use Rattle.reader.proofs.Laws.File.{next_bounds, records_step, records_end}
 use Rattle.desk.specs.Desk.{Desk, lent}
 use Rattle.lines.specs.Lines.{line_text, last_text}
 use Rattle.lines.specs.Widths.{width_of}

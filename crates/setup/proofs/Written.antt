@@ -15,7 +15,7 @@ use Rattle.desk.specs.Desk.{lent, reset_desk}
 use Rattle.setups.specs.declared.Wrote.{Wrote}
 use Rattle.setups.specs.declared.Wrote.TheVariants.{Bytes, Refused}
 use Rattle.setups.specs.Setup.{setup_of, setup_answer, setup_left}
-use Rattle.setups.specs.Setup.Laws.{setup_short, setup_fits}
+use Rattle.setups.proofs.Laws.Setup.{setup_short, setup_fits}
 use Rattle.session.specs.Session.{left_of}
 use Rattle.setup.specs.Handing.{written_of}
 

@@ -1,2 +1,3 @@
 -- Setup files computed of the definitions.
+pub mod Laws
 pub mod Examples

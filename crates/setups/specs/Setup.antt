@@ -11,7 +11,6 @@ use Rattle.desk.specs.Desk.{engine_word}
 use Rattle.setups.specs.declared.Wrote.{Wrote}
 use Rattle.setups.specs.declared.Wrote.TheVariants.{Bytes}
 use Rattle.setups.specs.declared.Wrote.TheVariants.{Refused as No}
-pub mod Laws
 
 -- ---- the file
 

@@ -2,7 +2,7 @@
 use Rattle.std.specs.Prelude.{◌≡◌, refl, Bool, true, false, cond, ℕ, ◌≤◌}
 use Rattle.std.proofs.Common.{arith}
 use Rattle.numbers.specs.Scales.{converted}
-use Rattle.numbers.specs.Scales.Laws.{converted_high}
+use Rattle.numbers.proofs.Laws.Scales.{converted_high}
 use Rattle.reading.specs.declared.settings.Mode2.{Mode2}
 use Rattle.control.specs.Counts.{output_counts}
 

@@ -5,7 +5,7 @@ use Rattle.std.proofs.Math.Nat.{lt-div-mul-add}
 use Rattle.numbers.specs.Whole.{linear, sub, abs, abs_in}
 use Rattle.numbers.specs.Limits.Laws.{by_test}
 use Rattle.numbers.specs.Rounding.{with_sign}
-use Rattle.numbers.specs.Rounding.Laws.{sign_abs}
+use Rattle.numbers.proofs.Laws.Rounding.{sign_abs}
 use Rattle.control.specs.Errors.{squared_over, error_of}
 
 -- toward zero: a square over the full scale has the error's sign, and its magnitude is the greatest that times G does not pass the square

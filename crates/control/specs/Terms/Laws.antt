@@ -7,9 +7,9 @@ use Rattle.std.proofs.Math.IntN.{nat_abs, zero-*ℤ}
 use Rattle.numbers.specs.Whole.{abs_neg, abs_sub, abs_scale, scale_scale}
 use Rattle.numbers.specs.Limits.Laws.{by_test}
 use Rattle.numbers.specs.Rounding.{half_away}
-use Rattle.numbers.specs.Rounding.Laws.{half_up_zero, half_up_high, half_away_abs}
+use Rattle.numbers.proofs.Laws.Rounding.{half_up_zero, half_up_high, half_away_abs}
 use Rattle.numbers.specs.Fractions.{Fraction, over, round_to}
-use Rattle.numbers.specs.Fractions.Laws.{round_over, round_neg}
+use Rattle.numbers.proofs.Laws.Fractions.{round_over, round_neg}
 use Rattle.reading.specs.declared.settings.Tuning.{Tuning}
 use Rattle.control.specs.declared.terms.Inputs.{Inputs}
 use Rattle.control.specs.declared.terms.Terms.{Terms}

@@ -12,7 +12,7 @@ use Rattle.desk.specs.declared.sampling.Line.{Line}
 use Rattle.desk.specs.declared.sampling.Sampled.TheVariants.{Shown}
 use Rattle.desk.specs.declared.sampling.Sampled.TheVariants.{Refused as Unshown}
 use Rattle.desk.specs.Desk.{Desk, sample_answer, answer_shown, sampled_at}
-use Rattle.desk.specs.Desk.Laws.{answer_shown_lem, line_shown}
+use Rattle.desk.proofs.Laws.Desk.{answer_shown_lem, line_shown}
 use Rattle.kexbardi.specs.Interface.{line_left}
 use Rattle.kexbardi.proofs.kexbardi_sample.Goals as goal
 

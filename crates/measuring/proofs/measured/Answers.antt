@@ -2,7 +2,7 @@
 use borrow.Author.Rules.{rules}
 use Prim.Native.Nat.{◌*◌}
 use native.Mathlib.Omega.{arith}
-use Rattle.numbers.specs.Roots.Laws.{root_exact, root_high}
+use Rattle.numbers.proofs.Laws.Roots.{root_exact, root_high}
 use Rattle.numbers.proofs.Machine.{word_product}
 use Rattle.measuring.specs.Measuring.{pv_of}
 use Rattle.measuring.proofs.measured.Goals as goal

@@ -2,7 +2,7 @@
 use Rattle.std.specs.Prelude.{ℕ, ◌*◌, ◌≤◌, Bool}
 use Rattle.std.proofs.Common.{arith, mul-le-mul, mul-le-mul_right}
 use Rattle.numbers.specs.Limits.Laws.{by_test}
-use Rattle.numbers.specs.Roots.Laws.{root_exact, root_high}
+use Rattle.numbers.proofs.Laws.Roots.{root_exact, root_high}
 use Rattle.measuring.specs.Measuring.{pv_of}
 
 pub pv_high : (root : Bool) {scale raw : ℕ} → scale ≤ 65535 → raw ≤ scale → pv_of root scale raw ≤ scale

@@ -9,7 +9,7 @@ use Rattle.numbers.specs.Limits.{clampℤ}
 use Rattle.numbers.specs.Limits.Laws.{by_test, Clamped, clamped, clamped_map, clamp_kept, orderℤ}
 use Rattle.numbers.specs.Rounding.{units_of}
 use Rattle.numbers.specs.Fractions.{Fraction, over, whole, ◌+ᶠ◌, ◌-ᶠ◌, negᶠ, ◌≤ᶠ◌, ◌≈ᶠ◌, Near, round_to}
-use Rattle.numbers.specs.Fractions.Laws.{at_over, at_add, at_in, At, ≤ᶠ_refl, ≤ᶠ_trans, +ᶠ_mono, negᶠ_turn, orderᶠ, over_mono, over_add, over_neg, over_whole, near_weaken, near_same, near_add, near_sub, clamp_near, shift_near, round_near}
+use Rattle.numbers.proofs.Laws.Fractions.{at_over, at_add, at_in, At, ≤ᶠ_refl, ≤ᶠ_trans, +ᶠ_mono, negᶠ_turn, orderᶠ, over_mono, over_add, over_neg, over_whole, near_weaken, near_same, near_add, near_sub, clamp_near, shift_near, round_near}
 use Rattle.control.specs.declared.terms.Terms.{Terms}
 use Rattle.control.specs.declared.forms.Drive.{Drive}
 use Rattle.control.specs.Terms.{Exact}

@@ -4,7 +4,7 @@ use Rattle.std.proofs.Common.{arith, ap}
 use Rattle.reader.specs.declared.Record.{Record}
 use Rattle.reader.specs.declared.Record.TheVariants.{Store, Sample, Refused}
 use Rattle.desk.specs.Desk.{Desk}
-use Rattle.desk.specs.Lists.Laws.{refused_call}
+use Rattle.desk.proofs.Laws.Lists.{refused_call}
 use Rattle.desk.specs.Lists.{store, sample, desk_behind}
 use Rattle.session.specs.Session.{number_for, left_for, count_of, State, after, run_of, answers_for, refusals_in, calls_of}
 

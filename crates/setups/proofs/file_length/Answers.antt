@@ -1,7 +1,7 @@
 -- `setups::file_length` meets its contract: with the bytes of the words that are left it would be the file's length.
 use Rattle.std.proofs.Common.{◌≡◌, sym, ◌∙◌, ◌+◌, ◌≤◌, ◌<◌, arith, length, get_or, drop}
 use Rattle.setups.specs.Setup.{bytes_of, bytes_from}
-use Rattle.setups.specs.Setup.Laws.{bytes_few, bytes_none, length_step}
+use Rattle.setups.proofs.Laws.Setup.{bytes_few, bytes_none, length_step}
 use Rattle.setups.proofs.file_length.Goals as goal
 use Rattle.setups.proofs.file_length.Goals.{then-handed_on, else-handed_on}
 

@@ -2,7 +2,7 @@
 use Rattle.std.proofs.Common.{◌∙◌, ◌+◌, ◌≤◌, ◌<◌, arith, length, get_or, drop}
 use Rattle.text.specs.Text.Laws.{sets_append}
 use Rattle.setups.specs.Setup.{bytes_of, bytes_from}
-use Rattle.setups.specs.Setup.Laws.{bytes_none, bytes_step, length_step}
+use Rattle.setups.proofs.Laws.Setup.{bytes_none, bytes_step, length_step}
 use Rattle.setups.proofs.put_file.Goals as goal
 
 pub put_bytes-place-requires : goal.put_bytes-place-requires

@@ -8,7 +8,7 @@ use Rattle.refusals.specs.declared.Answer.TheVariants.{Accepted, Refused}
 use Rattle.refusals.specs.Refusals.{first_of}
 use Rattle.setups.specs.declared.Wrote.TheVariants.{Bytes}
 use Rattle.setups.specs.Setup.{setup_of, setup_cases, setup_answer, setup_left}
-use Rattle.setups.specs.Setup.Laws.{promised}
+use Rattle.setups.proofs.Laws.Setup.{promised}
 use Rattle.setups.proofs.write_setup.Goals as goal
 
 pub returns-then-words-ne-WORDS : goal.returns-then-words-ne-WORDS

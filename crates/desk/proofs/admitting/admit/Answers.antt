@@ -16,7 +16,7 @@ use Rattle.carried.specs.Layout.Laws.{ranged}
 use Rattle.refusals.specs.Refusals.{first_of}
 use Rattle.judging.specs.Judging.{reading_cases}
 use Rattle.desk.specs.Desk.{Desk, lent, loop_cases, reading_at, sample_answer, admitted_at, admission_by, admission_of, admission_at}
-use Rattle.desk.specs.Desk.Laws.{sound, Known, known_loop_lem, loop_refused, past_loop}
+use Rattle.desk.proofs.Laws.Desk.{sound, Known, known_loop_lem, loop_refused, past_loop}
 use Rattle.desk.proofs.admitting.admit.Goals as goal
 
 pub returns-then-not-fitting : goal.returns-then-not-fitting

@@ -4,13 +4,13 @@ use Prim.Native.Nat.{ℕ}
 use mathlib.Core.Path.{◌≡◌, sym, ap, ◌∙◌}
 use Rattle.refusals.specs.declared.Answer.{Answer}
 use Rattle.refusals.specs.declared.Answer.TheVariants.{Accepted}
-use Rattle.reading.specs.Reading.Laws.{table_inside}
+use Rattle.reading.proofs.Laws.Reading.{table_inside}
 use Rattle.carried.specs.Former.{former_of}
 use Rattle.carried.specs.Layout.{carried_at}
 use Rattle.desk.specs.declared.admitting.Admitted.{Admitted}
 use Rattle.desk.specs.declared.admitting.Admission.TheVariants.{Sample}
 use Rattle.desk.specs.Desk.{Desk, lent, sample_answer, admitted_at, admission_at, remaining_of, counted_by, forecast_at}
-use Rattle.desk.specs.Desk.Laws.{admission_refused, admission_sample, Sampled, sampled}
+use Rattle.desk.proofs.Laws.Desk.{admission_refused, admission_sample, Sampled, sampled}
 use Rattle.desk.proofs.forecasting.forecast.Goals as goal
 
 -- what is known of an admitted sample with raw PV 0

@@ -1,7 +1,7 @@
 -- `desk::known_loop` meets its contract: past N4 the number is a loop's.
 use native.Mathlib.Omega.{arith}
 use mathlib.Core.Path.{sym, ◌∙◌}
-use Rattle.desk.specs.Desk.Laws.{loop_there}
+use Rattle.desk.proofs.Laws.Desk.{loop_there}
 use Rattle.desk.proofs.memory.known_loop.Goals as goal
 
 pub overflow_cast-number : goal.overflow_cast-number

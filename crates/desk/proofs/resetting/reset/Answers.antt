@@ -1,7 +1,7 @@
 -- `desk::reset` meets its contract: by the lengths of the memory.
 use Rattle.std.proofs.Common.{◌≡◌, false, sym, ◌∙◌}
 use Rattle.desk.specs.Desk.{Desk, fitting_of, reset_answer, reset_left}
-use Rattle.desk.specs.Desk.Laws.{reset_done}
+use Rattle.desk.proofs.Laws.Desk.{reset_done}
 use Rattle.desk.proofs.resetting.reset.Goals as goal
 
 -- memory of other lengths stays as it was

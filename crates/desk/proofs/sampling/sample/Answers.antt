@@ -7,7 +7,7 @@ use Rattle.engine.specs.Steps.{step_of}
 use Rattle.desk.specs.declared.admitting.Admitted.{Admitted}
 use Rattle.desk.specs.declared.admitting.Admission.TheVariants.{Sample}
 use Rattle.desk.specs.Desk.{Desk, lent, sample_answer, admitted_at, admission_at, step_at}
-use Rattle.desk.specs.Desk.Laws.{admission_refused, admission_sample, Sampled, sampled, shown_refused, shown_done, major_few}
+use Rattle.desk.proofs.Laws.Desk.{admission_refused, admission_sample, Sampled, sampled, shown_refused, shown_done, major_few}
 use Rattle.desk.proofs.sampling.sample.Goals as goal
 
 -- what is known of an admitted sample

@@ -5,7 +5,7 @@ use Rattle.refusals.specs.declared.Answer.TheVariants.{Accepted, Refused}
 use Rattle.refusals.specs.Refusals.{first_of}
 use Rattle.carried.specs.Layout.{number_count, slot_of, numbers_at}
 use Rattle.desk.specs.Desk.{loop_cases, fields_answer, fields_left}
-use Rattle.desk.specs.Desk.Laws.{known_loop_lem}
+use Rattle.desk.proofs.Laws.Desk.{known_loop_lem}
 use Rattle.desk.proofs.showing.fields.Goals as goal
 
 -- where the call is refused the copy stays, else it begins with the record's numbers

@@ -1,7 +1,7 @@
 -- `desk::store` meets its contract: at each answer, the tests that led there pick the case.
 use Rattle.std.proofs.Common.{◌≡◌, ◌<◌, ◌≤◌, ℕ, false, true, sym, ◌∙◌, set, arith, lt-ltb, le-ltb}
 use Rattle.desk.specs.Desk.{Desk, lent, fitting_of, engine_word, store_answer, store_left}
-use Rattle.desk.specs.Desk.Laws.{sound}
+use Rattle.desk.proofs.Laws.Desk.{sound}
 use Rattle.desk.proofs.storing.store.Goals as goal
 
 -- where the store is refused the desk stays

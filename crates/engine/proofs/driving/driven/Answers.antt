@@ -6,7 +6,7 @@ use lib.IntN.{ℤ, nat_abs}
 use Rattle.reading.specs.declared.settings.Mode2.{Mode2}
 use Rattle.carried.specs.declared.record.Past.{Past}
 use Rattle.engine.specs.Driving.{kept_in, past_of, moved_of, driven_of}
-use Rattle.engine.specs.Driving.Laws.{inputs_bounded, ready}
+use Rattle.engine.proofs.Laws.Driving.{inputs_bounded, ready}
 use Rattle.engine.proofs.driving.driven.Goals as goal
 
 pub returns-then-manual : goal.returns-then-manual

@@ -7,7 +7,7 @@ use mir.Syntax.{w64}
 use mir.Val.{to_z, of_z}
 use Rattle.numbers.proofs.Machine.{back, small}
 use Rattle.engine.specs.Driving.{kept_in, past_of}
-use Rattle.engine.specs.Driving.Laws.{kept_same}
+use Rattle.engine.proofs.Laws.Driving.{kept_same}
 use Rattle.engine.proofs.driving.inputs_in.Goals as goal
 
 -- the error as the machine reads it back

@@ -2,8 +2,8 @@
 use Rattle.table.specs.Modes.{is_manual}
 use Rattle.engine.specs.Driving.{driven_of}
 use Rattle.engine.specs.Steps.{step_of}
-use Rattle.engine.specs.Steps.Laws.{drivable}
-use Rattle.engine.specs.Driving.Laws.{moved_output}
+use Rattle.engine.proofs.Laws.Steps.{drivable}
+use Rattle.engine.proofs.Laws.Driving.{moved_output}
 use Rattle.engine.proofs.stepping.step.Goals as goal
 
 pub driven-drive-requires : goal.driven-drive-requires

@@ -4,7 +4,7 @@ use Prim.Native.Nat.{ℕ, ◌*◌, ◌%◌, ◌^◌, ◌<◌}
 use native.Mathlib.Omega.{arith}
 use native.Mathlib.Nat.{one-mul}
 use lib.Pow.{shl_exact}
-use Rattle.numbers.specs.Roots.Newton.{half, half_most, first_fits, first_close}
+use Rattle.numbers.proofs.Laws.Newton.{half, half_most, first_fits, first_close}
 use Rattle.numbers.proofs.roots.first_guess.Goals as goal
 
 -- `1 << half`

@@ -1,6 +1,7 @@
 -- `numbers::root` meets its contract. The invariant: after some rounds x is as close to the root as `closeness` says.
 use Rattle.std.proofs.Common.{◌≡◌, ℕ, ◌-◌, arith}
-use Rattle.numbers.specs.Roots.Newton.{Close, closeness, close_after, round_fits, ends_at, ends_before}
+use Rattle.numbers.specs.Roots.Newton.{Close}
+use Rattle.numbers.proofs.Laws.Newton.{closeness, close_after, round_fits, ends_at, ends_before}
 use Rattle.numbers.proofs.roots.root.Goals as goal
 
 -- after both rounds

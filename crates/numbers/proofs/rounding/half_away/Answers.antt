@@ -1,7 +1,7 @@
 -- `numbers::half_away` meets its contract: the magnitude is rounded, and the rounded magnitude is no larger.
 use Rattle.std.proofs.Common.{◌≡◌, nat_abs, arith}
 use Rattle.numbers.specs.Rounding.{half_away}
-use Rattle.numbers.specs.Rounding.Laws.{half_up_self}
+use Rattle.numbers.proofs.Laws.Rounding.{half_up_self}
 use Rattle.numbers.proofs.Machine.{back, got}
 use Rattle.numbers.proofs.rounding.half_away.Goals as goal
 

@@ -1,7 +1,7 @@
 -- `numbers::nearest_count` meets its contract: at most 65,535 counts, so the nearest count is a word.
 use Rattle.std.proofs.Common.{◌≡◌, ◌*◌, ◌≤◌, nat_abs, arith, lit<}
 use Rattle.numbers.specs.Whole.{linear, abs}
-use Rattle.numbers.specs.Rounding.Laws.{half_up_high}
+use Rattle.numbers.proofs.Laws.Rounding.{half_up_high}
 use Rattle.numbers.proofs.Machine.{back}
 use Rattle.numbers.proofs.rounding.nearest_count.Goals as goal
 

@@ -1,7 +1,7 @@
 -- The cycle of calls {ramps, soaks}: each result is its definition, and bounded so that the sums fit.
 use Rattle.std.proofs.Common.{◌≡◌, ◌-◌, ◌*◌, sym, arith}
 use native.Mathlib.Nat.{add-zero}
-use Rattle.profile.specs.Forecasts.Laws.{count_high, no_ramps, no_soaks, ramp_stops, ramp_then, soak_then}
+use Rattle.profile.proofs.Laws.Forecasts.{count_high, no_ramps, no_soaks, ramp_stops, ramp_then, soak_then}
 use Rattle.profile.proofs.forecasting.+ramps_soaks.Goals as goal
 use Rattle.profile.proofs.forecasting.+ramps_soaks.Goals.{soaks-then-time-whole, soaks-else-time-whole}
 

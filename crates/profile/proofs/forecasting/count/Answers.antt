@@ -3,7 +3,7 @@ use borrow.Author.Rules.{rules}
 use native.Mathlib.Omega.{arith}
 use mathlib.Core.Path.{sym}
 use Rattle.profile.specs.Forecasts.{count_of}
-use Rattle.profile.specs.Forecasts.Laws.{count_last}
+use Rattle.profile.proofs.Laws.Forecasts.{count_last}
 use Rattle.profile.proofs.forecasting.count.Goals as goal
 
 pub returns-then-way-eq0 : goal.returns-then-way-eq0

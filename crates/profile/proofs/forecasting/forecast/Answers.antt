@@ -1,6 +1,6 @@
 -- `profile::forecast` meets its contract: the tests of the segment pick the definition's case.
 use Rattle.std.proofs.Common.{sym, ◌∙◌, arith}
-use Rattle.profile.specs.Forecasts.Laws.{none_left, on_ramp, on_soak}
+use Rattle.profile.proofs.Laws.Forecasts.{none_left, on_ramp, on_soak}
 use Rattle.profile.proofs.forecasting.forecast.Goals as goal
 
 pub returns-then-p-eq0 : goal.returns-then-p-eq0

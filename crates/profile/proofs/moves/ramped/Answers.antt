@@ -3,7 +3,7 @@ use native.Mathlib.Omega.{arith}
 use native.Mathlib.Nat.{add-zero}
 use borrow.Author.Tests.{eq-eqb, ne_eqb}
 use Rattle.profile.specs.Moves.{ramped_by}
-use Rattle.profile.specs.Moves.Laws.{toward_high}
+use Rattle.profile.proofs.Laws.Moves.{toward_high}
 use Rattle.profile.proofs.moves.ramped.Goals as goal
 
 pub returns-then-pair-eq0 : goal.returns-then-pair-eq0

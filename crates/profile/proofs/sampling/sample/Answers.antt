@@ -1,7 +1,7 @@
 -- `profile::sample` meets its contract: with a program it is moved, and stays in its ranges; without one word 27 is 0.
 use mathlib.Core.Path.{◌≡◌}
 use Rattle.profile.specs.Moves.{advanced_by, command_of, worked_by}
-use Rattle.profile.specs.Moves.Laws.{advanced_within}
+use Rattle.profile.proofs.Laws.Moves.{advanced_within}
 use Rattle.profile.specs.Flags.{flags_of}
 use Rattle.profile.specs.Samples.{sampled_by}
 use Rattle.profile.specs.declared.state.Profile.{Profile}

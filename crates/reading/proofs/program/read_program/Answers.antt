@@ -3,7 +3,7 @@ use Rattle.std.proofs.Common.{◌≡◌, ◌∙◌, ℕ, ◌+◌, ◌≤◌, Lis
 use Rattle.table.specs.Words.{block_at}
 use Rattle.table.specs.Words.Laws.{block_length}
 use Rattle.reading.specs.Programs.{fault_of, program_of}
-use Rattle.reading.specs.Programs.Laws.{good_address}
+use Rattle.reading.proofs.Laws.Programs.{good_address}
 use Rattle.reading.proofs.program.read_program.Goals as goal
 
 -- a good address has a table inside the words

@@ -1,6 +1,6 @@
 -- `reading::is_transfer` meets its contract: a transfer is always requested.
 use mathlib.Core.Path.{sym}
-use Rattle.reading.specs.Reading.Laws.{by_request, no_request}
+use Rattle.reading.proofs.Laws.Reading.{by_request, no_request}
 use Rattle.reading.proofs.reading.is_transfer.Goals as goal
 
 pub returns-then-bits : goal.returns-then-bits

@@ -2,7 +2,7 @@
 use native.Mathlib.Omega.{arith}
 use mathlib.Core.Path.{refl, ◌∙◌}
 use borrow.Author.Tests.{lt-ltb, le-ltb}
-use Rattle.desk.specs.Desk.Laws.{reset_fresh}
+use Rattle.desk.proofs.Laws.Desk.{reset_fresh}
 use Rattle.session.specs.Printed.{printed_of, printed_within}
 use Rattle.session.proofs.Loops.{printed}
 use Rattle.session.proofs.printing.drill.Goals as goal

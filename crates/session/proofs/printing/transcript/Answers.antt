@@ -3,7 +3,7 @@
 use native.Mathlib.Omega.{arith}
 use mathlib.Core.Path.{ap, ◌∙◌}
 use Rattle.reader.specs.declared.Step.{Step}
-use Rattle.reader.specs.File.Laws.{next_bounds}
+use Rattle.reader.proofs.Laws.File.{next_bounds}
 use Rattle.session.specs.declared.turn.Acted.{Acted}
 use Rattle.session.proofs.Loops.{tell, end_telling}
 use Rattle.session.proofs.printing.transcript.Goals as goal

@@ -2,7 +2,7 @@
 use native.Mathlib.Omega.{arith}
 use mathlib.Core.Path.{ap, ◌∙◌}
 use Rattle.reader.specs.declared.Step.{Step}
-use Rattle.reader.specs.File.Laws.{next_bounds}
+use Rattle.reader.proofs.Laws.File.{next_bounds}
 use Rattle.session.specs.declared.turn.Acted.{Acted}
 use Rattle.session.proofs.Loops.{end, answer, end_answering}
 use Rattle.session.proofs.running.carry_all.Goals as goal

@@ -2,7 +2,7 @@
 use mathlib.Core.Path.{ap, ◌∙◌}
 use Rattle.refusals.specs.Refusals.{number_of}
 use Rattle.desk.specs.Lists.{answer_to, desk_after}
-use Rattle.desk.specs.Desk.Laws.{answer_shown_lem}
+use Rattle.desk.proofs.Laws.Desk.{answer_shown_lem}
 use Rattle.session.specs.Session.{acted_by}
 use Rattle.session.proofs.turn.act.Goals as goal
 

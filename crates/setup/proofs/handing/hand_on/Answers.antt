@@ -1,6 +1,6 @@
 -- `setup::handing::hand_on` meets its contract: the desk is fresh from a reset, the run leaves its words, and the writer has room for them.
 use Rattle.std.proofs.Common.{arith, ◌∙◌, rules}
-use Rattle.desk.specs.Desk.Laws.{reset_fresh}
+use Rattle.desk.proofs.Laws.Desk.{reset_fresh}
 use Rattle.setup.proofs.Written.{too_long, Handed, handed, written, never}
 use Rattle.setup.proofs.handing.hand_on.Goals as goal
 use Rattle.setup.proofs.handing.hand_on.Goals.{After-write_setup-wrote}

@@ -5,7 +5,7 @@ use Rattle.std.proofs.Common.{ap, ◌∙◌, arith, mul-pos, mul-le-mul_right, l
 use Rattle.numbers.specs.Whole.{plus, minus, add, sub, neg, plus_neg, minus_neg, scale, scale_neg, plus_scale, minus_scale, abs, le_out, le_in}
 use Rattle.numbers.specs.Limits.Laws.{Order, orderℤ, Clamped, Along, clamped_along}
 use Rattle.numbers.specs.Rounding.{half_up, half_away}
-use Rattle.numbers.specs.Rounding.Laws.{half_up_near, half_away_near, half_away_neg}
+use Rattle.numbers.proofs.Laws.Rounding.{half_up_near, half_away_near, half_away_neg}
 use Rattle.numbers.specs.Fractions.{Fraction, over, whole, ◌+ᶠ◌, ◌-ᶠ◌, negᶠ, ◌≤ᶠ◌, ltᶠ, ◌≈ᶠ◌, Near, round_to}
 
 -- ---- the order in natural numbers

@@ -2,7 +2,7 @@
 use Rattle.std.specs.Prelude.{◌≡◌, ℕ, ◌+◌, ◌*◌, ◌≤◌, ◌<◌}
 use Rattle.std.proofs.Common.{ap, ◌∙◌, arith, mul_comm, mul-le-mul_right}
 use Rattle.numbers.specs.Rounding.{half_up}
-use Rattle.numbers.specs.Rounding.Laws.{half_up_near, half_up_tie, half_up_whole, half_up_mono, half_up_low, half_up_high}
+use Rattle.numbers.proofs.Laws.Rounding.{half_up_near, half_up_tie, half_up_whole, half_up_mono, half_up_low, half_up_high}
 use Rattle.numbers.specs.Scales.{converted}
 
 -- it is never above G, whatever is converted

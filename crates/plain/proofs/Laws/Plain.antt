@@ -8,7 +8,7 @@ use Rattle.std.proofs.Math.Bool.{true, false, or-true}
 use Rattle.numbers.specs.Whole.{linear, abs}
 use Rattle.numbers.specs.Rounding.{half_up, units_of}
 use Rattle.numbers.specs.Fractions.{Fraction, over, whole, ◌≤ᶠ◌, Near}
-use Rattle.numbers.specs.Fractions.Laws.{at_over, at_add, at_in, near_in, near_trans, count_near}
+use Rattle.numbers.proofs.Laws.Fractions.{at_over, at_add, at_in, near_in, near_trans, count_near}
 use Rattle.reading.specs.declared.reading.Reading.{Reading}
 use Rattle.table.specs.Modes.{is_manual}
 use Rattle.control.specs.declared.forms.Drive.{Drive}
@@ -23,22 +23,16 @@ use Rattle.carried.specs.Ranged.{Ranged}
 use Rattle.engine.specs.declared.sensing.Sensed.{Sensed}
 use Rattle.engine.specs.Sensing.{sensed_of}
 use Rattle.engine.specs.Driving.{held_of, start_of, low_units, high_units, kept_in, past_of, position_inputs, terms_in, moved_in, moved_of, driven_of}
-use Rattle.engine.specs.Driving.Laws.{moved_inside}
+use Rattle.engine.proofs.Laws.Driving.{moved_inside}
 use Rattle.engine.specs.Writing.{output_word, next_of, written_of}
 use Rattle.engine.specs.Steps.{step_of}
-use Rattle.engine.specs.Steps.Laws.{drivable}
+use Rattle.engine.proofs.Laws.Steps.{drivable}
 use Rattle.engine.specs.Premises.{Usable}
 use Rattle.engine.proofs.Limits.{word_inside}
 use Rattle.plain.specs.Exact.{in_counts, exact_output, exact_bias}
 use Rattle.plain.specs.Exact.Laws.{position_near}
 use Rattle.plain.specs.Plain.{Plain, begun, count_after, inputs_of, exact_moved, plain_after, plain_marked, tolerance}
-
--- the states are one; and where n is above 0, a sample was accepted, the last PVs agree, and the bias is within n units of the exact one
-pub record Tied (c : Carried) (q : Plain) : Type 0 where
-  pub state : c.state ≡ q.state
-  pub sampled : 0 < q.n → c.sampled ≡ true
-  pub last : 0 < q.n → c.past.last ≡ q.last
-  pub bias : 0 < q.n → Near (in_counts (pos q.n)) (in_counts c.drive.bias) q.B
+use Rattle.plain.specs.Premises.{Tied, Good}
 
 -- it holds at the start, of any record
 pub start_tied : (c : Carried) → Tied c (begun c)
@@ -54,13 +48,6 @@ start_tied c = record {
 pub mark_tied : {c : Carried} {q : Plain} → Tied c q → Tied (marked_record c) (plain_marked q)
 unfolding plain_marked
 mark_tied {c} {q} t = record { state = ap marked t.state; sampled = t.sampled; last = t.last; bias = t.bias }
-
--- what is claimed of one accepted sample, q being the plain loop after it. E2: the output word is inside the limits read. E6: where n is above 0, it is
--- near the exact output
-pub record Good (word lo hi : ℕ) (q : Plain) : Type 0 where
-  pub low : lo ≤ word
-  pub high : word ≤ hi
-  pub near : 0 < q.n → Near (tolerance q.n) (whole (pos word)) q.output
 
 -- the entry's bias is exact
 entry_near : (w : ℕ) → Near (in_counts (pos 0)) (in_counts (pos (units_of w))) (whole (pos w))

@@ -4,7 +4,7 @@ use Rattle.std.proofs.Common.{arith, mul_comm, ap, ◌∙◌, lit<, ltb-false}
 use Rattle.std.proofs.Math.Bool.{or-true}
 use Rattle.numbers.specs.Limits.Laws.{by_test}
 use Rattle.numbers.specs.Rounding.{nearest_count}
-use Rattle.numbers.specs.Rounding.Laws.{half_up_whole}
+use Rattle.numbers.proofs.Laws.Rounding.{half_up_whole}
 use Rattle.refusals.specs.declared.Answer.TheVariants.{Accepted}
 use Rattle.refusals.specs.Refusals.{first_of}
 use Rattle.table.specs.declared.format.Format.{Format}
@@ -14,9 +14,9 @@ use Rattle.reading.specs.declared.reading.Reading.{Reading}
 use Rattle.table.specs.Modes.{is_manual, is_cascade}
 use Rattle.reading.specs.Reading.{reading_of}
 use Rattle.table.specs.Words.Laws.{or_false}
-use Rattle.reading.specs.Reading.Laws.{input_scale, output_scale, one_format, decimals, fair}
+use Rattle.reading.proofs.Laws.Reading.{input_scale, output_scale, one_format, decimals, fair}
 use Rattle.control.specs.Counts.Laws.{counts_high}
-use Rattle.profile.specs.Moves.Laws.{Within}
+use Rattle.profile.specs.Premises.{Within}
 use Rattle.carried.specs.declared.record.State.{State}
 use Rattle.carried.specs.declared.record.Carried.{Carried}
 use Rattle.carried.specs.Ranged.{Ranged}
@@ -26,9 +26,9 @@ use Rattle.judging.specs.Judging.{reading_cases}
 use Rattle.judging.specs.Judging.Laws.{passed, times_good, limits_good, setpoint_good}
 use Rattle.engine.specs.declared.sensing.Sensed.{Sensed}
 use Rattle.engine.specs.Sensing.{setpoint_of, changed, runs_on, target_of, sensed_of}
-use Rattle.engine.specs.Sensing.Laws.{target_high, profiled_within, profiled_scale, sensed_error}
+use Rattle.engine.proofs.Laws.Sensing.{target_high, profiled_within, profiled_scale, sensed_error}
 use Rattle.engine.specs.Driving.{held_of, start_of, past_of, moved_of, driven_of}
-use Rattle.engine.specs.Driving.Laws.{held_high, start_bias, start_output, Remembered, past_high, moved_output, moved_bias, entry_still}
+use Rattle.engine.proofs.Laws.Driving.{held_high, start_bias, start_output, Remembered, past_high, moved_output, moved_bias, entry_still}
 use Rattle.engine.specs.Writing.{output_word, written_of, next_of}
 use Rattle.engine.specs.Steps.{step_of}
 use Rattle.engine.specs.Premises.{Usable, Drivable}

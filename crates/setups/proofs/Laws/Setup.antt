@@ -8,7 +8,7 @@ use Rattle.refusals.specs.Refusals.{first_of}
 use Rattle.reader.specs.declared.Record.{Record}
 use Rattle.reader.specs.declared.Record.TheVariants.{Store}
 use Rattle.reader.specs.File.{word_at, record_at, records_from, records_of}
-use Rattle.reader.specs.File.Laws.{whole_at_lem, records_step, records_end}
+use Rattle.reader.proofs.Laws.File.{whole_at_lem, records_step, records_end}
 use Rattle.desk.specs.Desk.{engine_word}
 use Rattle.setups.specs.declared.Wrote.TheVariants.{Bytes}
 use Rattle.setups.specs.Setup.{word_bytes, store_bytes, handed_on, bytes_of, bytes_from, setup_of, setup_cases, wrote_by, setup_answer, filled_by, setup_left, stores_from}

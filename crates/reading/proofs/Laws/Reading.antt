@@ -14,9 +14,10 @@ use Rattle.table.specs.Words.Laws.{block_at_lem, Scaled, input_scaled, output_sc
 use Rattle.table.specs.Modes.{is_automatic, is_cascade}
 use Rattle.reading.specs.Settings.{mode1_of, mode2_of, unused_bits, bad_digits, tuning_of, settings_of}
 use Rattle.reading.specs.Settings.Laws.{Decimals, tuning_high}
-use Rattle.reading.specs.Transfers.Laws.{only_cascade, major_local}
+use Rattle.reading.proofs.Laws.Transfers.{only_cascade, major_local}
 use Rattle.reading.specs.Programs.{fault_of}
-use Rattle.reading.specs.Programs.Laws.{Fair, good_address, program_on, program_own, program_fair}
+use Rattle.reading.specs.Premises.{Fair}
+use Rattle.reading.proofs.Laws.Programs.{good_address, program_on, program_own, program_fair}
 use Rattle.reading.specs.Transfers.{transfers, major_of}
 use Rattle.reading.specs.Reading.{mode_after, remote_of, table_of, reading_of}
 

@@ -10,7 +10,8 @@ use Rattle.control.specs.Errors.{in_deadband}
 use Rattle.control.specs.Errors.Laws.{error_none, error_high}
 use Rattle.profile.specs.declared.state.Profile.{Profile}
 use Rattle.profile.specs.declared.sampling.Profiled.{Profiled}
-use Rattle.profile.specs.Moves.Laws.{Within, advanced_within, advanced_scale}
+use Rattle.profile.specs.Premises.{Within}
+use Rattle.profile.proofs.Laws.Moves.{advanced_within, advanced_scale}
 use Rattle.profile.specs.Samples.{sampled_by}
 use Rattle.engine.specs.Sensing.{setpoint_of, target_of, profiled_of, error_in}
 

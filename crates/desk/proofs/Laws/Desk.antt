@@ -16,7 +16,7 @@ use Rattle.refusals.specs.Refusals.Laws.{accepted_at, accepted_rest, refused_fir
 use Rattle.reading.specs.Reading.{reading_of}
 use Rattle.table.specs.Words.{base_of, block_at}
 use Rattle.table.specs.Words.Laws.{or_false, and_true, block_apart}
-use Rattle.reading.specs.Transfers.Laws.{IsMajor, read_low, major_read}
+use Rattle.reading.proofs.Laws.Transfers.{IsMajor, read_low, major_read}
 use Rattle.carried.specs.Layout.{field_count, number_count, slot_of, out_of_range, numbers_of, record_from, numbers_at, carried_at, marked_at, marked_record}
 use Rattle.carried.specs.Layout.Laws.{read_back, numbers_length, put_same, put_other, ranged, in_range, mark_same, mark_other, mark_record, mark_range}
 use Rattle.carried.specs.declared.record.Carried.{Carried}
@@ -26,7 +26,7 @@ use Rattle.judging.specs.Judging.{reading_cases}
 use Rattle.judging.specs.Judging.Laws.{MajorGood, passed, major_good}
 use Rattle.engine.specs.Writing.{written_to}
 use Rattle.engine.specs.Writing.Laws.{There as Written, Other as Unwritten, written_there, written_length, written_other, written_block}
-use Rattle.engine.specs.Steps.Laws.{usable, stepped_ranged}
+use Rattle.engine.proofs.Laws.Steps.{usable, stepped_ranged}
 use Rattle.engine.specs.Premises.{Usable}
 use Rattle.desk.specs.declared.admitting.Admitted.{Admitted}
 use Rattle.desk.specs.declared.admitting.Admission.TheVariants.{Sample}

@@ -10,7 +10,7 @@ use Rattle.refusals.specs.declared.Answer.TheVariants.{Accepted, Refused}
 use Rattle.refusals.specs.Refusals.{number_of}
 use Rattle.carried.specs.Layout.{field_count, number_count, slot_of, out_of_range, numbers_at}
 use Rattle.desk.specs.Desk.{Desk, fitting_of, left_by, reset_desk, reset_answer, reset_left, store_answer, store_left, sample_done, sample_answer, sample_left}
-use Rattle.desk.specs.Desk.Laws.{sound, fits, reset_numbers, sampled, done_lengths, own_range, other_range}
+use Rattle.desk.proofs.Laws.Desk.{sound, fits, reset_numbers, sampled, done_lengths, own_range, other_range}
 use Rattle.desk.specs.Lists.{Call, reset, store, sample, answer_to, desk_after, desk_behind, Plains, fed, plains_behind}
 
 -- by an answer with a number above 0

@@ -15,6 +15,7 @@ use Rattle.profile.specs.declared.moves.Command.{Command}
 use Rattle.profile.specs.declared.moves.Command.TheVariants.{Start, Hold, Resume, Jog, Nothing}
 use Rattle.profile.specs.Moves.{command_of, ended_of, started_of, with_hold, handed_over, jogged_of, toward, parts_of, ramped_to, ramped_by, soaked_by, moved_by, worked_by, advanced_by}
 use Rattle.profile.specs.Flags.{is_soak}
+use Rattle.profile.specs.Premises.{Within}
 
 -- a move ends no higher than where it begins or where it goes
 pub toward_high : (at to step m : ℕ) → at ≤ m → to ≤ m → toward at to step ≤ m
@@ -39,12 +40,6 @@ by_way P program flags period p setpoint none begun held jog same ramp soak = by
     go Nothing = by_test P (p.hold || eqb p.segment 0) (λ _. same) (λ _. by_test P (eqb (p.segment % 2) 1) (λ _. ramp) (λ _. soak))
 
 -- ---- the ranges
-
--- the numbers of a profile are within H1's rows
-pub record Within (p : Profile) : Type 0 where
-  pub segment : p.segment ≤ 16
-  pub fraction : p.fraction ≤ 9999
-  pub time : p.time ≤ 6000000
 
 handed_within : {p : Profile} → Within p → Within (handed_over p)
 unfolding handed_over

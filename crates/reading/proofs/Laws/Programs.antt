@@ -11,6 +11,7 @@ use Rattle.reading.specs.declared.program.Program.{Program}
 use Rattle.table.specs.Words.{bad_digit, block_at}
 use Rattle.table.specs.Words.Laws.{or_false, bcd_high}
 use Rattle.reading.specs.Programs.{fault_of, pair_at, pair_number, any_below, bad_digit_in, high_end_in, no_program, program_of}
+use Rattle.reading.specs.Premises.{Fair}
 
 -- ---- the tests of a table
 
@@ -53,12 +54,6 @@ good_address at e = go (ltb at 512) (ltb 992 at) refl refl e
 pub address_good : (at : ℕ) → 512 ≤ at → at ≤ 992 → fault_of at ≡ 0
 unfolding fault_of
 address_good at low high = rw (le-ltb at 512 low, le-ltb 992 at high)
-
--- what is known of a program whose table has passed: the pair's numbers are decimal, and its end is within the scale
-pub record Fair (p : Program) (scale : ℕ) : Type 0 where
-  pub slope : p.pair.slope ≤ 9999
-  pub duration : p.pair.duration ≤ 9999
-  pub end : p.pair.end ≤ scale
 
 module _ (words : List ℕ) (at scale segment : ℕ) where
   -- what holds where there is no program, and of the one that there is, holds of what is read

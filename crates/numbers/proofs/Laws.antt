@@ -1,0 +1,6 @@
+-- What follows from the definitions, proved once and cited by name: here, and not in specs/, where a wrong version edits the definition.
+pub mod Rounding
+pub mod Scales
+pub mod Roots
+pub mod Newton
+pub mod Fractions
