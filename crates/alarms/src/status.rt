@@ -5,7 +5,6 @@ ghost use Rattle.alarms.specs.Status.{bits_word, bits_of, status_of};
 ghost use Rattle.alarms.specs.Sums.{Valued, flag_of, mode_bit, level_bits, deviation_bits};
 
 use crate::alarm::{contradiction, high_alarm, low_alarm, saturated};
-use numbers::distance;
 use reading::{AlarmLimits, Mode1, OutputLimits};
 use table::{Mode, is_manual};
 
@@ -54,12 +53,13 @@ fn level_bits(on: bool, limits: AlarmLimits, stored: u16, pv: u16) -> u16
 }
 
 // B4, B3: bits 7 and 8, where the deviation is watched.
+#[tactic(auto, using(numbers::specs::Distances::Laws::apart_diff))]
 fn deviation_bits(on: bool, limits: AlarmLimits, stored: u16, setpoint: u16, pv: u16) -> u16
     ensures { Valued result (cond on (deviation_bits limits stored (apart setpoint pv)) 0) 384 }
 {
     if on {
         let hysteresis = limits.hysteresis;
-        let deviation = distance(setpoint, pv);
+        let deviation = setpoint.abs_diff(pv);
         let yellow = high_alarm(stored / 128 % 2 == 1, limits.yellow, hysteresis, deviation);
         let red = high_alarm(stored / 256 % 2 == 1, limits.red, hysteresis, deviation);
         flag(yellow, 128) + flag(red, 256)
@@ -88,7 +88,7 @@ pub fn status_word(
         seen.setpoint,
         seen.pv,
     );
-    let change = distance(seen.pv, seen.last);
+    let change = seen.pv.abs_diff(seen.last);
     let fault = contradiction(bits, limits);
     let limited = saturated(manual, output, seen.output, seen.setpoint, seen.pv);
     mode_bit(mode)

@@ -3,10 +3,11 @@ ghost use Rattle.std.specs.Prelude.{◌≡◌, ◌<◌, nat_abs};
 ghost use Rattle.control.specs.Errors.{in_deadband, squared_over, error_of};
 
 // Whether the deadband is on and the setpoint nearer to the PV than that, both in counts of the input.
+#[tactic(auto, using(numbers::specs::Distances::Laws::apart_diff), unfolding(crate::specs::Errors::in_deadband))]
 pub fn in_deadband(on: bool, deadband: u16, setpoint: u16, pv: u16) -> bool
     ensures { result ≡ in_deadband on deadband setpoint pv }
 {
-    on & (numbers::distance(setpoint, pv) < deadband)
+    on & (setpoint.abs_diff(pv) < deadband)
 }
 
 // The square of e over the scale without the fraction, with the sign of e.

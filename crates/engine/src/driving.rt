@@ -12,10 +12,11 @@ use reading::{Mode2, Reading, Settings};
 use table::is_manual;
 
 // A4, A10: word 5 brought inside the output limits.
+#[tactic(auto, using(numbers::specs::Limits::Laws::clamp_word_is), unfolding(crate::specs::Driving::held_of))]
 pub(crate) fn held_word(s: Settings) -> u16
     ensures { result ≡ held_of s }
 {
-    numbers::clamp_word(s.stored.output, s.limits.low, s.limits.high)
+    numbers::clamp(s.stored.output, s.limits.low, s.limits.high)
 }
 
 // A4: bias and output to start from.

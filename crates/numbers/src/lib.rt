@@ -5,15 +5,13 @@
 // definitions, and `proofs/Machine` has the step from a bound to the range of 64 bits.
 #![tactic(auto)]
 
-mod distances;
 mod limits;
 mod roots;
 mod rounding;
 mod scales;
 mod signed;
 
-pub use distances::distance;
-pub use limits::{clamp, clamp_word};
+pub use limits::clamp;
 pub use roots::root;
 pub use rounding::{UNITS, half_away, half_up, nearest_count, scaled, units};
 pub use scales::convert;

@@ -1,9 +1,12 @@
 // A number brought inside two limits (A4).
 ghost use Rattle.std.specs.Prelude.{◌≡◌};
-ghost use Rattle.numbers.specs.Limits.{clampℕ, clampℤ};
+ghost use Rattle.std.specs.Ordering.{partial_lt};
+ghost use Rattle.numbers.specs.Limits.{clamp_by};
 
-pub fn clamp(x: i64, lo: i64, hi: i64) -> i64
-    ensures { result ≡ clampℤ x lo hi }
+// Of any ordered type. The library's `clamp` asks for lo ≤ hi; this one has an answer for any limits.
+#[tactic(auto, unfolding(crate::specs::Limits::clamp_by))]
+pub fn clamp<T: PartialOrd + Copy>(x: T, lo: T, hi: T) -> T
+    ensures { result ≡ clamp_by (partial_lt T.partial_cmp) x lo hi }
 {
     if x < lo {
         lo
@@ -11,18 +14,5 @@ pub fn clamp(x: i64, lo: i64, hi: i64) -> i64
         hi
     } else {
         x
-    }
-}
-
-// The same of words.
-pub fn clamp_word(word: u16, lo: u16, hi: u16) -> u16
-    ensures { result ≡ clampℕ word lo hi }
-{
-    if word < lo {
-        lo
-    } else if hi < word {
-        hi
-    } else {
-        word
     }
 }

@@ -23,7 +23,7 @@ fn is_soak(segment: u8) -> bool
 fn deviates_by(deviation: u16, setpoint: u16, pv: u16) -> bool
     ensures { result ≡ deviates deviation setpoint pv }
 {
-    (deviation != 0) & (deviation < numbers::distance(setpoint, pv))
+    (deviation != 0) & (deviation < setpoint.abs_diff(pv))
 }
 
 // A bit's value in the word.

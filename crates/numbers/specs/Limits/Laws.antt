@@ -1,9 +1,10 @@
 -- The laws of clamping, once for numbers of any kind that an order with its test is known of, and then for whole numbers.
-use Rattle.std.specs.Prelude.{◌≡◌, refl, Bool, true, false, not, cond, ◌⊎◌, ℕ, ◌≤◌, T, ltb, ℤ, pos, nat_abs, ◌+ℤ◌, ◌-ℤ◌, ◌≤ℤ◌, ◌<ℤ◌}
-use Rattle.std.proofs.Common.{inl, inr, arith, le_refl, le_trans, ltb→lt, nltb→le}
+use Rattle.std.specs.Prelude.{◌≡◌, refl, Bool, true, false, not, cond, ◌⊎◌, ℕ, ◌≤◌, T, ltb, nat_eq, ℤ, pos, nat_abs, ◌+ℤ◌, ◌-ℤ◌, ◌≤ℤ◌, ◌<ℤ◌}
+use Rattle.std.proofs.Common.{Less, Equal, Greater, inl, inr, arith, le_refl, le_trans, ltb→lt, nltb→le}
 use Rattle.std.specs.Int.Signed.{lt_z, lt_z_yes, lt_z_no, ≤ℤ_refl}
+use Rattle.std.specs.Ordering.{is_lt, nat_cmp, int_cmp, as_partial_cmp, partial_lt}
 use Rattle.numbers.specs.Whole.{linear, add, sub, abs, abs_in}
-use Rattle.numbers.specs.Limits.{clamp_by, clampℤ}
+use Rattle.numbers.specs.Limits.{clamp_by, clampℕ, clampℤ}
 
 module _ {A : Type 0} (◌≼◌ : A → A → Type 0) where
   infix 50 ◌≼◌
@@ -134,3 +135,31 @@ clamp_near {lo} {hi} l x y =
 pub clamp_abs : (x lo hi : ℤ) {k : ℕ} → nat_abs lo ≤ k → nat_abs hi ≤ k → nat_abs (clampℤ x lo hi) ≤ k
 clamp_abs x lo hi {k} l h =
     clamp_cases orderℤ (λ c. nat_abs c ≤ k) x lo hi (λ a. l) (λ a b. h) (λ a b. omega (arith, linear, abs x, abs lo, abs hi))
+
+-- ---- by the library's order of a type of numbers, which code clamps by
+
+-- the test `<` of that order is the one of the definitions
+below_ℕ : (x y : ℕ) → partial_lt (as_partial_cmp nat_cmp) x y ≡ ltb x y
+below_ℕ x y = go (ltb x y) (nat_eq x y)
+  where
+    go : (l e : Bool) → is_lt (cond l Less (cond e Equal Greater)) ≡ l
+    go true e = refl
+    go false true = refl
+    go false false = refl
+
+below_ℤ : (x y : ℤ) → partial_lt (as_partial_cmp int_cmp) x y ≡ lt_z x y
+below_ℤ x y = go (lt_z x y) (lt_z y x)
+  where
+    go : (l g : Bool) → is_lt (cond l Less (cond g Greater Equal)) ≡ l
+    go true g = refl
+    go false true = refl
+    go false false = refl
+
+-- so at u16 it is clamping of natural numbers, and at i64 of whole numbers
+pub clamp_word_is : (x lo hi : ℕ) → clamp_by (partial_lt (as_partial_cmp nat_cmp)) x lo hi ≡ clampℕ x lo hi
+unfolding clamp_by
+clamp_word_is x lo hi = simp below_ℕ
+
+pub clamp_int_is : (x lo hi : ℤ) → clamp_by (partial_lt (as_partial_cmp int_cmp)) x lo hi ≡ clampℤ x lo hi
+unfolding clamp_by
+clamp_int_is x lo hi = simp below_ℤ

@@ -7,6 +7,7 @@ use mir.Syntax.{w64}
 use mir.Val.{SFits}
 use Rattle.numbers.specs.Whole.{abs_add, abs_sub}
 use Rattle.numbers.specs.Limits.{clampℤ}
+use Rattle.numbers.specs.Limits.Laws.{clamp_int_is}
 use Rattle.numbers.proofs.Machine.{small}
 use Rattle.control.specs.declared.forms.Drive.{Drive}
 use Rattle.control.specs.declared.terms.Terms.{Terms}
@@ -31,5 +32,5 @@ returns c =
     let t = c.args.terms in
     let h = sums d t c.requires in
     let e : c.clamp-output.result ≡ clampℤ (((d.output +ℤ t.p) +ℤ t.i) -ℤ t.d) c.args.low c.args.high
-    = c.clamp-output.ensures ∙ (search rules) in
+    = c.clamp-output.ensures ∙ clamp_int_is _ _ _ ∙ (search rules) in
     rw (← e) (search rules)

@@ -9,7 +9,7 @@ use mir.Syntax.{w64}
 use mir.Facts.{to_z-of_z}
 use Rattle.numbers.specs.Whole.{linear}
 use Rattle.numbers.specs.Limits.{clampℤ}
-use Rattle.numbers.specs.Limits.Laws.{clamp_low, clamp_high}
+use Rattle.numbers.specs.Limits.Laws.{clamp_int_is, clamp_low, clamp_high}
 use Rattle.numbers.specs.Rounding.{units_of}
 use Rattle.numbers.proofs.Machine.{got}
 use Rattle.engine.specs.Writing.{bias_word}
@@ -30,7 +30,7 @@ pub nearest_count-requires : goal.nearest_count-requires
 nearest_count-requires c =
     let a = c.args in
     let u = got c.units.result c.units.type_inv ∙ c.units.ensures in
-    let e = clamped a.drive.bias a.scale (to_z-of_z {w = w64} {z = a.drive.bias} (search rules)) u c.clamp.ensures in
+    let e = clamped a.drive.bias a.scale (to_z-of_z {w = w64} {z = a.drive.bias} (search rules)) u (c.clamp.ensures ∙ clamp_int_is _ _ _) in
     simp (got c.clamp.result c.clamp.type_inv) (within a.drive.bias a.scale (omega arith) e)
 
 pub returns-then-kept : goal.returns-then-kept
@@ -42,5 +42,5 @@ unfolding bias_word
 returns-else-kept c =
     let a = c.args in
     let u = got c.units.result c.units.type_inv ∙ c.units.ensures in
-    let e = clamped a.drive.bias a.scale (to_z-of_z {w = w64} {z = a.drive.bias} (search rules)) u c.clamp.ensures in
+    let e = clamped a.drive.bias a.scale (to_z-of_z {w = w64} {z = a.drive.bias} (search rules)) u (c.clamp.ensures ∙ clamp_int_is _ _ _) in
     simp (c.nearest_count.ensures, got c.clamp.result c.clamp.type_inv) (simp (e, c.if-kept.false))

@@ -1,7 +1,8 @@
--- `profile::deviates_by` meets its contract, by that of `distance`.
+-- `profile::deviates_by` meets its contract, by what `abs_diff` gives.
+use Rattle.numbers.specs.Distances.Laws.{apart_diff}
 use Rattle.profile.specs.Flags.{deviates}
 use Rattle.profile.proofs.flags.deviates_by.Goals as goal
 
 pub returns : goal.returns
 unfolding deviates
-returns c = rw c.distance.ensures
+returns c = simp (c.abs_diff.ensures, apart_diff)
