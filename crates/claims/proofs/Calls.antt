@@ -1,4 +1,5 @@
 -- What every direct call answers and leaves, proved.
+use Rattle.std.specs.Prelude.{Ok, Err}
 use Prim.Native.Nat.{ℕ, ◌+◌, ◌%◌, ◌≤◌, ◌<◌}
 use native.Mathlib.Omega.{arith}
 use mathlib.Core.Path.{◌≡◌, refl, ap, ◌∙◌}
@@ -9,17 +10,15 @@ use lib.IntN.{ℤ, pos}
 use lib.ListN.{length, drop, set, replicate, length-take, length-drop, drop_of_length-le}
 use lib.Seq.{sets, sets-eq}
 use borrow.Author.Tests.{ne_eqb, eq-eqb, lt-ltb, le-ltb, ltb-true, ltb-false}
-use Rattle.refusals.specs.declared.Answer.{Answer}
-use Rattle.refusals.specs.declared.Answer.TheVariants.{Accepted, Refused}
 use Rattle.refusals.specs.declared.Refusal.TheVariants.{Record}
-use Rattle.refusals.specs.Refusals.{number_of_refusal, number_of, Case, first_of}
+use Rattle.refusals.specs.Refusals.{number_of_refusal, number_of, Case, first_of, Answer, accepted, accepted_with}
 use Rattle.refusals.specs.Refusals.Laws.{in_table, accepted_only, Each, first_of_kind}
 use Rattle.table.specs.Words.Laws.{and_true}
 use Rattle.reading.proofs.Laws.Reading.{Reads, reads}
 use Rattle.carried.specs.Former.{former_of}
 use Rattle.carried.specs.Layout.{Rows, number_count, slot_of, numbers_at, carried_at, out_of_range}
 use Rattle.carried.specs.Layout.Laws.{rows_in, in_rows}
-use Rattle.desk.specs.Desk.{Desk, lent, fitting_of, memory_cases, no_loop, reset_answer, reset_left, engine_word, store_cases, store_answer, store_left, reading_at, sample_cases, sample_answer, remaining_of, counted_by, forecast_at, copied_by, fields_answer, fields_left}
+use Rattle.desk.specs.Desk.{Desk, lent, fitting_of, memory_cases, no_loop, reset_answer, reset_left, engine_word, store_cases, store_answer, store_left, reading_at, sample_cases, sample_answer, remaining_of, forecast_at, copied_by, fields_answer, fields_left}
 use Rattle.desk.proofs.Laws.Desk.{sound, there_loop, reset_sound, reset_numbers}
 use Rattle.desk.specs.Lists.{Call, reset, store, sample, answer_to, desk_after}
 use Rattle.desk.proofs.Laws.Lists.{refused_call, unfit}
@@ -78,7 +77,7 @@ module _ (d : Desk) (address : ℕ) (fit : fitting_of d ≡ true) where
       → (number_of (store_answer d address) ≡ 0) × (store_left d address value ≡ lent (set d.words address value) d.numbers)
   unfolding store_left store_answer
   stored value low reach =
-      let a : store_answer d address ≡ Accepted = rw (fit, le-ltb 1023 address low, reach) in
+      let a : store_answer d address ≡ accepted = rw (fit, le-ltb 1023 address low, reach) in
       (ap number_of a, rw a)
 
   beyond : 1023 < address → number_of (store_answer d address) ≡ 6
@@ -114,10 +113,10 @@ no_such_loop k wrong = go (ltb k 1) refl (ltb 16 k) refl
 -- ---- forecasts
 
 -- by the answer to the sample
-told_by_lem : (a : Answer) (n samples : ℕ) → let t = told_by (counted_by a n) samples in
+told_by_lem : (a : Answer) (n samples : ℕ) → let t = told_by (accepted_with a n) samples in
     (t.number ≡ number_of a) × (t.number ≡ 0 → t.samples ≡ n) × (0 < t.number → t.samples ≡ samples)
-told_by_lem Accepted n samples = (refl, λ _. refl, λ h. absurd (omega arith))
-told_by_lem (Refused why) n samples = (refl, λ e. absurd (omega (arith, in_table why)), λ _. refl)
+told_by_lem (Ok _) n samples = (refl, λ _. refl, λ h. absurd (omega arith))
+told_by_lem (Err why) n samples = (refl, λ e. absurd (omega (arith, in_table why)), λ _. refl)
 
 pub forecasts : (d : Desk) (k samples : ℕ) → let t = told_by (forecast_at d k) samples in
     (t.number ≡ number_of (sample_answer d k 0)) × (t.number ≡ 0 → t.samples ≡ remaining_of d k)
@@ -133,8 +132,8 @@ module _ (ns : List ℤ) (k : ℕ) (copied : List ℤ) where
   fields_left_lem h = go (fields_answer ns k) (numbers_at ns (slot_of k)) h
     where
       go : (a : Answer) (found : List ℤ) → 0 < number_of a → copied_by a found copied ≡ copied
-      go Accepted found p = absurd (omega arith)
-      go (Refused why) found p = refl
+      go (Ok _) found p = absurd (omega arith)
+      go (Err why) found p = refl
 
   -- all of a buffer is written over
   over : (found : List ℤ) → length found ≡ length copied → sets copied 0 found ≡ found
@@ -146,7 +145,7 @@ module _ (ns : List ℤ) (k : ℕ) (copied : List ℤ) where
       → (number_of (fields_answer ns k) ≡ 0) × (fields_left ns k copied ≡ numbers_at ns (slot_of k))
   unfolding fields_answer fields_left
   fields_copied size above below rows room =
-      let a : fields_answer ns k ≡ Accepted = rw (eq-eqb (length ns) 224 size, there_loop k above below, in_rows (numbers_at ns (slot_of k)) rows) in
+      let a : fields_answer ns k ≡ accepted = rw (eq-eqb (length ns) 224 size, there_loop k above below, in_rows (numbers_at ns (slot_of k)) rows) in
       let whole : length (numbers_at ns (slot_of k)) ≡ length copied = simp (length-take, length-drop) (omega arith) in
       (ap number_of a, rw a (over (numbers_at ns (slot_of k)) whole))
 
@@ -160,7 +159,7 @@ fields_refused ns k = (
   λ e above below out. rw (eq-eqb (length ns) 224 e, there_loop k above below) (outside (out_of_range (numbers_at ns (slot_of k))) refl out),
 )
   where
-    outside : (b : Bool) → out_of_range (numbers_at ns (slot_of k)) ≡ b → (Rows (numbers_at ns (slot_of k)) → ⊥) → number_of (cond b (Refused Record) Accepted) ≡ 5
+    outside : (b : Bool) → out_of_range (numbers_at ns (slot_of k)) ≡ b → (Rows (numbers_at ns (slot_of k)) → ⊥) → number_of (cond b (Err Record) accepted) ≡ 5
     outside true e out = refl
     outside false e out = absurd (out (rows_in (numbers_at ns (slot_of k)) e))
 

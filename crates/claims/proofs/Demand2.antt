@@ -1,4 +1,5 @@
 -- Demand 2, proved.
+use Rattle.std.specs.Prelude.{Ok, Err}
 use Prim.Native.Nat.{ℕ, ◌+◌, ◌≤◌, ◌<◌}
 use native.Mathlib.Omega.{arith}
 use mathlib.Core.Path.{◌≡◌, refl, sym, ap, ◌∙◌, subst}
@@ -7,10 +8,8 @@ use mathlib.Core.Bool.{Bool, true, false}
 use lib.IntN.{ℤ, pos}
 use lib.ListN.{length, get_or, set}
 use borrow.Author.Tests.{eq-eqb, ne_eqb}
-use Rattle.refusals.specs.declared.Answer.{Answer}
-use Rattle.refusals.specs.declared.Answer.TheVariants.{Accepted, Refused}
 use Rattle.refusals.specs.declared.Refusal.TheVariants.{Record}
-use Rattle.refusals.specs.Refusals.{number_of, ◌⇒◌, first_of, FirstIn}
+use Rattle.refusals.specs.Refusals.{number_of, ◌⇒◌, first_of, FirstIn, Answer, accepted}
 use Rattle.refusals.specs.Refusals.Laws.{accepted_only}
 use Rattle.reading.specs.declared.reading.Reading.{Reading}
 use Rattle.table.specs.Words.{base_of, block_at}
@@ -147,7 +146,7 @@ module _ (d d' : Desk) (k k' raw : ℕ) (agree : Agree d d' k k') where
     same = block_at_lem d.words (base_of k) i few ∙ agree.words i few other ∙ sym (block_at_lem d'.words (base_of k') i few);
   }
 
-  words_same : sample_answer d k raw ≡ Accepted → SameBut28 (sample_done d k raw).words (sample_done d' k' raw).words k k'
+  words_same : sample_answer d k raw ≡ accepted → SameBut28 (sample_done d k raw).words (sample_done d' k' raw).words k k'
   words_same a i few other =
       let own = own_block d k raw (sampled d k raw a) in
       let own' = own_block d' k' raw (sampled d' k' raw (sym answer_same ∙ a)) in
@@ -158,7 +157,7 @@ module _ (d d' : Desk) (k k' raw : ℕ) (agree : Agree d d' k k') where
       ∙ sym (ap (λ (l : List ℕ). get_or l i 0) own')
       ∙ block_at_lem (sample_done d' k' raw).words (base_of k') i few
 
-  numbers_same : sample_answer d k raw ≡ Accepted
+  numbers_same : sample_answer d k raw ≡ accepted
       → numbers_at (sample_done d k raw).numbers (slot_of k) ≡ numbers_at (sample_done d' k' raw).numbers (slot_of k')
   numbers_same a =
       own_numbers d k raw (sampled d k raw a)
@@ -168,8 +167,8 @@ module _ (d d' : Desk) (k k' raw : ℕ) (agree : Agree d d' k k') where
   left_same : (a : Answer) → sample_answer d k raw ≡ a → let e = left_by a (sample_done d k raw) d in
       let e' = left_by a (sample_done d' k' raw) d' in
       SameBut28 e.words e'.words k k' × (numbers_at e.numbers (slot_of k) ≡ numbers_at e'.numbers (slot_of k'))
-  left_same Accepted e = (words_same e, numbers_same e)
-  left_same (Refused why) e = (agree.words, agree.numbers)
+  left_same (Ok _) e = (words_same e, numbers_same e)
+  left_same (Err why) e = (agree.words, agree.numbers)
 
   words_alike : SameBut28 (sample_left d k raw).words (sample_left d' k' raw).words k k'
       × (numbers_at (sample_left d k raw).numbers (slot_of k) ≡ numbers_at (sample_left d' k' raw).numbers (slot_of k'))

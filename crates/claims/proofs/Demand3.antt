@@ -1,4 +1,5 @@
 -- Demand 3, proved: a turn keeps the records tied to the plain loops, whatever it lends; so the claim holds of every turn behind any others.
+use Rattle.std.specs.Prelude.{Err}
 use Prim.Native.Nat.{ℕ, zero, suc, ◌+◌, ◌≤◌, ◌<◌}
 use native.Mathlib.Omega.{arith}
 use mathlib.Core.Path.{◌≡◌, refl, sym, ap, ◌∙◌}
@@ -6,7 +7,6 @@ use mathlib.Core.Bool.{Bool, true, false, ◌||◌}
 use mathlib.Core.List.{List, [], ◌∷◌, ◌++◌}
 use Rattle.numbers.specs.Fractions.{Fraction}
 use Rattle.refusals.specs.declared.Refusal.TheVariants.{Memory}
-use Rattle.refusals.specs.declared.Answer.TheVariants.{Refused}
 use Rattle.refusals.specs.Refusals.Laws.{never}
 use Rattle.reader.specs.File.{records_of}
 use Rattle.reading.specs.declared.reading.Reading.{Reading}
@@ -55,7 +55,7 @@ module _ (d : Desk) (qs : Plains) (wrong : fitting_of d ≡ false) where
   unfolding fed_made fed Claim
   idle (one call) = let a = unfit d wrong call in (λ k above below. none k call a, rw a)
     where
-      none : (k : ℕ) (call : Call) → answer_to d call ≡ Refused Memory → Claim k d (fed qs d call k) call
+      none : (k : ℕ) (call : Call) → answer_to d call ≡ Err Memory → Claim k d (fed qs d call k) call
       none k reset e = tt
       none k (store address value) e = tt
       none k (sample j raw) e = λ same ok. absurd (never (sym e ∙ ok))

@@ -8,8 +8,7 @@ use mathlib.Core.List.{◌++◌}
 use borrow.Author.Tests.{ltb-false}
 use Rattle.numbers.specs.Roots.{Nearest}
 use Rattle.numbers.proofs.Laws.Roots.{root_exact, root_no_tie, root_only, root_order, square_root}
-use Rattle.refusals.specs.declared.Answer.TheVariants.{Accepted}
-use Rattle.refusals.specs.Refusals.{number_of}
+use Rattle.refusals.specs.Refusals.{number_of, accepted}
 use Rattle.refusals.specs.Refusals.Laws.{accepted_only, accepted_rest}
 use Rattle.table.specs.declared.format.Format.{Format}
 use Rattle.table.specs.Words.{bit}
@@ -27,7 +26,7 @@ use Rattle.claims.proofs.Calls.{by_words}
 use Rattle.claims.proofs.Demand2.{demand_2}
 
 -- N9: the raw PV of an accepted sample is within full scale
-within : (d : Desk) (k raw : ℕ) → sample_answer d k raw ≡ Accepted → raw ≤ input_full d k
+within : (d : Desk) (k raw : ℕ) → sample_answer d k raw ≡ accepted → raw ≤ input_full d k
 unfolding sample_answer
 within d k raw e =
     let p = accepted_rest (memory_cases d) (loop_cases d.numbers k ++ reading_cases (reading_at d k) raw) e in

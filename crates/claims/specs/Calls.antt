@@ -1,9 +1,7 @@
 -- What every direct call (Q1 to Q4, Q11, Q12) answers and leaves, on memory of any lengths.
 use Rattle.std.specs.Prelude.{ℕ, ◌%◌, ◌≤◌, ◌<◌, ◌≡◌, Bool, true, false, List, [], ◌∷◌, map, eqb, ℤ, pos, length, set, replicate}
 use Rattle.std.proofs.lemmas.List.Edits.{sets}
-use Rattle.refusals.specs.declared.Answer.{Answer}
-use Rattle.refusals.specs.declared.Answer.TheVariants.{Accepted}
-use Rattle.refusals.specs.Refusals.{number_of}
+use Rattle.refusals.specs.Refusals.{number_of, Answer, accepted}
 use Rattle.table.specs.Words.{any}
 use Rattle.carried.specs.Layout.{Rows, slot_of, numbers_at}
 use Rattle.desk.specs.Desk.{Desk, fitting_of, reset_answer, reset_left, store_answer, store_left, reading_at, sample_answer, sample_left, remaining_of, forecast_at, fields_answer, fields_left}
@@ -38,7 +36,7 @@ pub record Called : Type 0 where
   -- every answer to a reset, a store or a sample is 0, which is an acceptance, or another of these numbers; 5 on memory of wrong lengths. Which one
   -- a sample is answered with is said in `Causes`
   pub answers : (d : Desk) (call : Call) → Answered (number_of (answer_to d call)) × (fitting_of d ≡ false → number_of (answer_to d call) ≡ 5)
-  pub zero : (a : Answer) → number_of a ≡ 0 → a ≡ Accepted
+  pub zero : (a : Answer) → number_of a ≡ 0 → a ≡ accepted
   -- Q2: a store of an address that may be stored is carried out, and changes that word; any other is refused with 6 (N6)
   pub stores : (d : Desk) (address value : ℕ) → fitting_of d ≡ true → address ≤ 1023 → (address < 512 → Reserved (address % 32) → ⊥)
       → (number_of (store_answer d address) ≡ 0)

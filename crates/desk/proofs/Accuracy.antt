@@ -1,4 +1,6 @@
 -- Demand 3 of one call and of a list of calls: the records stay tied to the sixteen plain loops, and each accepted sample is good.
+use Rattle.std.specs.Prelude.{Ok, Err}
+use Rattle.refusals.specs.Refusals.{Answer, accepted}
 use Prim.Native.Nat.{ℕ, ◌+◌, ◌≤◌}
 use mathlib.Core.Path.{◌≡◌, refl, sym, ap, ◌∙◌, subst}
 use mathlib.Core.Bool.{Bool, true, false, cond}
@@ -7,8 +9,6 @@ use lib.Dec.{eqb}
 use lib.IntN.{ℤ}
 use lib.ListN.{get_or}
 use borrow.Author.Tests.{eqb-true, eqb-false}
-use Rattle.refusals.specs.declared.Answer.{Answer}
-use Rattle.refusals.specs.declared.Answer.TheVariants.{Accepted, Refused}
 use Rattle.refusals.specs.Refusals.Laws.{never}
 use Rattle.table.specs.Words.{base_of}
 use Rattle.reading.specs.Reading.{reading_of}
@@ -70,16 +70,16 @@ module _ (d : Desk) (qs : Plains) (tied : TiedAll d.numbers qs) where
 
   of_reset : (a : Answer) → answer_to d reset ≡ a → Kept reset a
   unfolding Claim answer_to desk_after reset_left
-  of_reset (Refused why) e = (λ k above below. tt, rw e tied)
-  of_reset Accepted e = (λ k above below. tt, all_begun _)
+  of_reset (Err why) e = (λ k above below. tt, rw e tied)
+  of_reset (Ok _) e = (λ k above below. tt, all_begun _)
 
   of_store : (address value : ℕ) (a : Answer) → answer_to d (store address value) ≡ a → Kept (store address value) a
   unfolding Claim answer_to desk_after store_left
-  of_store address value (Refused why) e = (λ k above below. tt, rw e tied)
-  of_store address value Accepted e = (λ k above below. tt, rw e tied)
+  of_store address value (Err why) e = (λ k above below. tt, rw e tied)
+  of_store address value (Ok _) e = (λ k above below. tt, rw e tied)
 
   -- an accepted sample, of each loop
-  accepted : (j raw : ℕ) → sample_answer d j raw ≡ Accepted → (k : ℕ) → 1 ≤ k → k ≤ 16
+  accepted : (j raw : ℕ) → sample_answer d j raw ≡ accepted → (k : ℕ) → 1 ≤ k → k ≤ 16
       → Claim k d (sampled_all qs d j raw k) (sample j raw) × Tied (carried_at (sample_done d j raw).numbers k) (sampled_all qs d j raw k)
   unfolding Claim sampled_all answer_to desk_after sample_left
   accepted j raw e k above below = go (eqb j k) refl
@@ -95,8 +95,8 @@ module _ (d : Desk) (qs : Plains) (tied : TiedAll d.numbers qs) where
 
   of_sample : (j raw : ℕ) (a : Answer) → answer_to d (sample j raw) ≡ a → Kept (sample j raw) a
   unfolding Claim answer_to desk_after sample_left
-  of_sample j raw (Refused why) e = (λ k above below same ok. absurd (never (sym e ∙ ok)), rw e tied)
-  of_sample j raw Accepted e = (λ k above below. (accepted j raw e k above below).0, rw e (λ k above below. (accepted j raw e k above below).1))
+  of_sample j raw (Err why) e = (λ k above below same ok. absurd (never (sym e ∙ ok)), rw e tied)
+  of_sample j raw (Ok _) e = (λ k above below. (accepted j raw e k above below).0, rw e (λ k above below. (accepted j raw e k above below).1))
 
   pub one : (call : Call) → Kept call (answer_to d call)
   one reset = of_reset (answer_to d reset) refl

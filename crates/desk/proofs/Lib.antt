@@ -1,6 +1,5 @@
 -- What a cleared buffer keeps; demand 3 of a list of calls; and a list computed.
 pub mod Laws
-pub mod Clearing
 pub mod Accuracy
 pub mod Examples
 pub mod Tables

@@ -1,6 +1,9 @@
 -- Calls on a desk computed of the definitions. Two lists of them, with the plain loops of loops 1 and 9 beside them: one with refused calls between, words
 -- written from outside, and a reset; and one of a cascade, from transfer to transfer. Then single calls on a desk whose words and numbers all differ: which
 -- of them change, every one of the 1,024 words and 224 numbers being compared; the refusals N4, N5 and N6 (O1, O3); the forecast; and a record copied out.
+use Rattle.desk.specs.declared.sampling.Line.{Line}
+use Rattle.refusals.specs.declared.Refusal.{Refusal}
+use Rattle.std.specs.Prelude.{Result, Ok, Err}
 use Prim.Native.Nat.{ℕ, zero, suc, ◌+◌}
 use Prim.Native.String.{String}
 use mathlib.Core.Path.{◌≡◌, refl}
@@ -43,12 +46,6 @@ use Rattle.engine.specs.Steps.{step_of}
 use Rattle.plain.specs.Exact.{exact_sum, exact_output, exact_bias}
 use Rattle.plain.specs.Plain.{Plain, begun, count_after, exact_moved, plain_after, plain_marked}
 use Rattle.desk.specs.Desk.{Desk, lent, fitting_of, no_loop, reset_desk, reset_answer, reset_left, store_answer, store_left, transfer_left, done_by, sample_answer, sample_left, sampled_at, remaining_of, forecast_at, fields_answer, fields_left}
-use Rattle.desk.specs.declared.sampling.Sampled.{Sampled}
-use Rattle.desk.specs.declared.sampling.Sampled.TheVariants.{Shown}
-use Rattle.desk.specs.declared.sampling.Sampled.TheVariants.{Refused as Unshown}
-use Rattle.desk.specs.declared.forecasting.Foretold.{Foretold}
-use Rattle.desk.specs.declared.forecasting.Foretold.TheVariants.{Samples}
-use Rattle.desk.specs.declared.forecasting.Foretold.TheVariants.{Refused as Unforetold}
 use Rattle.desk.specs.Lists.{Call, reset, store, sample, answer_to, desk_after, Plains, begun_all, sampled_all, fed}
 
 -- ---- lists of calls
@@ -209,9 +206,9 @@ changing =
     ∷ 120 ∷ signed (pos 0) ∷ 121 ∷ signed (pos 0) ∷ []))
     ∷ []
 
-shown : Sampled → List ℕ
-shown (Shown l) = 0 ∷ l.setpoint ∷ l.pv ∷ l.output ∷ l.status ∷ []
-shown (Unshown why) = number_of_refusal why ∷ []
+shown : Result Line Refusal → List ℕ
+shown (Ok l) = 0 ∷ l.setpoint ∷ l.pv ∷ l.output ∷ l.status ∷ []
+shown (Err why) = number_of_refusal why ∷ []
 
 refusing : List Case
 refusing =
@@ -286,9 +283,9 @@ testing =
 
 -- ---- Q11, G12: the forecast
 
-foretold : Foretold → List ℕ
-foretold (Samples n) = 0 ∷ n ∷ []
-foretold (Unforetold why) = number_of_refusal why ∷ []
+foretold : Result ℕ Refusal → List ℕ
+foretold (Ok n) = 0 ∷ n ∷ []
+foretold (Err why) = number_of_refusal why ∷ []
 
 -- X1's loop in Automatic with bit 11 on, setpoint 1,000 and a table at 512: to 1,010 by 1.00 a second, a soak of 0.1 minute, and a ramp of slope 0.00
 profiled : ℕ → ℕ → Desk

@@ -1,11 +1,10 @@
 -- A desk, and each call on it (Q1 to Q4, Q11): its refusals in order (O3), its answer, and what it leaves. A refused call leaves the desk as it was (Q8).
-use Rattle.std.specs.Prelude.{ℕ, ◌+◌, ◌%◌, Bool, cond, not, ◌&&◌, ◌||◌, List, [], ◌∷◌, ◌++◌, ltb, eqb, ℤ, pos, length, get_or, set, replicate}
+use Rattle.refusals.specs.declared.Refusal.{Refusal}
+use Rattle.std.specs.Prelude.{ℕ, ◌+◌, ◌%◌, Bool, cond, not, ◌&&◌, ◌||◌, List, [], ◌∷◌, ◌++◌, ltb, eqb, ℤ, pos, length, get_or, set, replicate, Ok, Err, Result}
 use Rattle.std.proofs.lemmas.List.Edits.{sets}
 use Rattle.refusals.specs.declared.Refusal.TheVariants.{Memory, Record, Store}
 use Rattle.refusals.specs.declared.Refusal.TheVariants.{Loop as NoLoop}
-use Rattle.refusals.specs.declared.Answer.{Answer}
-use Rattle.refusals.specs.declared.Answer.TheVariants.{Accepted, Refused}
-use Rattle.refusals.specs.Refusals.{Case, ◌⇒◌, first_of}
+use Rattle.refusals.specs.Refusals.{Case, ◌⇒◌, first_of, Answer, accepted, accepted_with}
 use Rattle.reading.specs.declared.reading.Reading.{Reading}
 use Rattle.table.specs.Words.{any, base_of, block_at}
 use Rattle.reading.specs.Reading.{table_of, reading_of}
@@ -19,16 +18,7 @@ use Rattle.engine.specs.declared.stepping.Stepped.{Stepped}
 use Rattle.engine.specs.Writing.{written_to}
 use Rattle.engine.specs.Steps.{step_of}
 use Rattle.desk.specs.declared.admitting.Admitted.{Admitted}
-use Rattle.desk.specs.declared.admitting.Admission.{Admission}
-use Rattle.desk.specs.declared.admitting.Admission.TheVariants.{Sample}
-use Rattle.desk.specs.declared.admitting.Admission.TheVariants.{Refused as Turned}
 use Rattle.desk.specs.declared.sampling.Line.{Line}
-use Rattle.desk.specs.declared.sampling.Sampled.{Sampled}
-use Rattle.desk.specs.declared.sampling.Sampled.TheVariants.{Shown}
-use Rattle.desk.specs.declared.sampling.Sampled.TheVariants.{Refused as Unshown}
-use Rattle.desk.specs.declared.forecasting.Foretold.{Foretold}
-use Rattle.desk.specs.declared.forecasting.Foretold.TheVariants.{Samples}
-use Rattle.desk.specs.declared.forecasting.Foretold.TheVariants.{Refused as Unforetold}
 
 -- W1, H4: the lent words, and the lent numbers of the carried records
 pub record Desk : Type 0 where
@@ -48,8 +38,8 @@ memory_cases d = (not (fitting_of d) ⇒ Memory) ∷ []
 
 -- Q8, O5: by the answer to a call, what the call makes of the desk, or the desk as it was
 abbrev pub left_by : Answer → Desk → Desk → Desk
-left_by Accepted after before = after
-left_by (Refused why) after before = before
+left_by (Ok _) after before = after
+left_by (Err why) after before = before
 
 -- ---- reset
 
@@ -117,16 +107,12 @@ admitted_of c r raw = record { carried = c; reading = r; pv = measured_of r raw 
 abbrev pub admitted_at : Desk → ℕ → ℕ → Admitted
 admitted_at d k raw = admitted_of (carried_at d.numbers k) (reading_at d k) raw
 
-abbrev pub admission_by : Answer → Admitted → Admission
-admission_by Accepted a = Sample a
-admission_by (Refused why) a = Turned why
-
 -- by what was read alone
-abbrev pub admission_of : Carried → Reading → ℕ → Admission
-admission_of c r raw = admission_by (first_of (reading_cases r raw)) (admitted_of c r raw)
+abbrev pub admission_of : Carried → Reading → ℕ → Result Admitted Refusal
+admission_of c r raw = accepted_with (first_of (reading_cases r raw)) (admitted_of c r raw)
 
-unfoldable pub admission_at : Desk → ℕ → ℕ → Admission
-admission_at d k raw = admission_by (sample_answer d k raw) (admitted_at d k raw)
+unfoldable pub admission_at : Desk → ℕ → ℕ → Result Admitted Refusal
+admission_at d k raw = accepted_with (sample_answer d k raw) (admitted_at d k raw)
 
 -- A2 to A12: what the sample comes to, if it is accepted
 abbrev pub step_at : Desk → ℕ → ℕ → Stepped
@@ -159,20 +145,20 @@ line_at ws k =
     let at : ℕ → ℕ = λ i. get_or ws (base_of k + i) 0 in
     record { setpoint = at 2; pv = at 3; output = at 5; status = at 6 }
 
+-- and these four, in this order
+abbrev pub words_of : Line → List ℕ
+words_of l = l.setpoint ∷ l.pv ∷ l.output ∷ l.status ∷ []
+
 abbrev pub line_of : List ℕ → ℕ → List ℕ
-line_of ws k = let l = line_at ws k in l.setpoint ∷ l.pv ∷ l.output ∷ l.status ∷ []
+line_of ws k = words_of (line_at ws k)
+
+abbrev pub answer_shown : Result Line Refusal → Answer
+answer_shown (Ok l) = accepted
+answer_shown (Err why) = Err why
 
 -- Q3: the answer, with the line of the words after the call where it is accepted
-abbrev pub shown_by : Answer → Line → Sampled
-shown_by Accepted l = Shown l
-shown_by (Refused why) l = Unshown why
-
-abbrev pub answer_shown : Sampled → Answer
-answer_shown (Shown l) = Accepted
-answer_shown (Unshown why) = Refused why
-
-unfoldable pub sampled_at : Desk → ℕ → ℕ → Sampled
-sampled_at d k raw = shown_by (sample_answer d k raw) (line_at (sample_left d k raw).words k)
+unfoldable pub sampled_at : Desk → ℕ → ℕ → Result Line Refusal
+sampled_at d k raw = accepted_with (sample_answer d k raw) (line_at (sample_left d k raw).words k)
 
 -- ---- forecast
 
@@ -183,13 +169,9 @@ remaining_of d k =
     let q = (carried_at d.numbers k).state.profile in
     cond r.program.on (forecast_of (block_at d.words (table_of d.words k)) r.settings.tuning.period q r.settings.stored.setpoint) 0
 
-abbrev pub counted_by : Answer → ℕ → Foretold
-counted_by Accepted n = Samples n
-counted_by (Refused why) n = Unforetold why
-
 -- Q11: refused as a sample with raw PV 0 is; else the samples that remain
-unfoldable pub forecast_at : Desk → ℕ → Foretold
-forecast_at d k = counted_by (sample_answer d k 0) (remaining_of d k)
+unfoldable pub forecast_at : Desk → ℕ → Result ℕ Refusal
+forecast_at d k = accepted_with (sample_answer d k 0) (remaining_of d k)
 
 -- ---- what is shown of a loop's record
 
@@ -202,8 +184,8 @@ unfoldable pub fields_answer : List ℤ → ℕ → Answer
 fields_answer ns k = first_of (fields_cases ns k)
 
 abbrev pub copied_by : Answer → List ℤ → List ℤ → List ℤ
-copied_by Accepted found before = sets before 0 found
-copied_by (Refused why) found before = before
+copied_by (Ok _) found before = sets before 0 found
+copied_by (Err why) found before = before
 
 -- Q4: the numbers of the loop's record copied out, if they are in range
 unfoldable pub fields_left : List ℤ → ℕ → List ℤ → List ℤ

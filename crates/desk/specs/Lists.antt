@@ -1,7 +1,6 @@
 -- Lists of calls on a desk (E1), and what demand 3 claims of each (E2, E6): the sixteen plain loops are fed beside the desk.
-use Rattle.std.specs.Prelude.{ℕ, ◌+◌, ◌≡◌, cond, List, [], ◌∷◌, eqb, ℤ, get_or}
-use Rattle.refusals.specs.declared.Answer.{Answer}
-use Rattle.refusals.specs.declared.Answer.TheVariants.{Accepted, Refused}
+use Rattle.refusals.specs.Refusals.{Answer, accepted}
+use Rattle.std.specs.Prelude.{ℕ, ◌+◌, ◌≡◌, cond, List, [], ◌∷◌, eqb, ℤ, get_or, Ok, Err}
 use Rattle.reading.specs.declared.reading.Reading.{Reading}
 use Rattle.table.specs.Words.{base_of}
 use Rattle.reading.specs.Reading.{reading_of}
@@ -56,10 +55,10 @@ sampled_all qs d j raw k =
 
 -- E3: an accepted reset begins all of them anew; what is refused, and a store, leaves them
 abbrev pub fed_by : Plains → Desk → Answer → Call → Plains
-fed_by qs d (Refused why) call = qs
-fed_by qs d Accepted reset = begun_all (desk_after d reset).numbers
-fed_by qs d Accepted (store address value) = qs
-fed_by qs d Accepted (sample j raw) = sampled_all qs d j raw
+fed_by qs d (Err why) call = qs
+fed_by qs d (Ok _) reset = begun_all (desk_after d reset).numbers
+fed_by qs d (Ok _) (store address value) = qs
+fed_by qs d (Ok _) (sample j raw) = sampled_all qs d j raw
 
 -- E3: the plain loops after a call
 unfoldable pub fed : Plains → Desk → Call → Plains
@@ -77,7 +76,7 @@ unfoldable pub Claim : ℕ → Desk → Plain → Call → Type 0
 Claim k d q reset = Unit {0}
 Claim k d q (store address value) = Unit {0}
 Claim k d q (sample j raw) =
-    j ≡ k → answer_to d (sample j raw) ≡ Accepted
+    j ≡ k → answer_to d (sample j raw) ≡ accepted
     → let base = base_of k in
     Good (get_or (desk_after d (sample j raw)).words (base + 5) 0) (get_or d.words (base + 24) 0) (get_or d.words (base + 25) 0) q
 

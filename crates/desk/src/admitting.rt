@@ -8,7 +8,7 @@ use carried::{Carried, former_of, numbers_at, record_of, slot_of};
 use judging::{bad_major, judge};
 use measuring::measure;
 use reading::{Reading, read_loop};
-use refusals::{Answer, Refusal};
+use refusals::Refusal;
 
 // The loop's record, what was read of the words, and the PV.
 #[derive(Clone, Copy)]
@@ -18,51 +18,38 @@ pub struct Admitted {
     pub pv: u16,
 }
 
-#[derive(Clone, Copy)]
-pub enum Admission {
-    Refused(Refusal),
-    Sample(Admitted),
-}
-
 // By what was read, and the raw PV: what judging tests, N11 last, when the PV is measured.
-fn admit_read(reading: Reading, carried: Carried, raw: u64) -> Admission
+fn admit_read(reading: Reading, carried: Carried, raw: u64) -> Result<Admitted, Refusal>
     requires { reading.settings.mode2.input.scale ≤ 65535 }
     ensures { result ≡ admission_of carried reading raw }
 {
-    let answer = judge(reading, raw);
-    match answer {
-        Answer::Refused(why) => Admission::Refused(why),
-        Answer::Accepted => {
-            let pv = measure(reading, raw as u16);
-            let major = reading.major;
-            if bad_major(reading.transfer, major, pv) {
-                return Admission::Refused(Refusal::Transfer);
-            }
-            Admission::Sample(Admitted {
-                carried,
-                reading,
-                pv,
-            })
-        }
+    judge(reading, raw)?;
+    let pv = measure(reading, raw as u16);
+    if bad_major(reading.transfer, reading.major, pv) {
+        return Err(Refusal::Transfer);
     }
+    Ok(Admitted {
+        carried,
+        reading,
+        pv,
+    })
 }
 
 // A sample of loop `number` with the raw PV `raw`: N5 (lengths), N4, N5 (the record), and what judging tests.
-pub(crate) fn admit(words: &[u16], numbers: &[i64], number: u64, raw: u64) -> Admission
+pub(crate) fn admit(
+    words: &[u16],
+    numbers: &[i64],
+    number: u64,
+    raw: u64,
+) -> Result<Admitted, Refusal>
     ensures { result ≡ admission_at (lent words.now numbers.now) number raw }
 {
     if !fitting(words, numbers) {
-        return Admission::Refused(Refusal::Memory);
+        return Err(Refusal::Memory);
     }
-    let known = known_loop(numbers, number);
-    match known {
-        Answer::Refused(why) => Admission::Refused(why),
-        Answer::Accepted => {
-            let number = number as u8;
-            let carried = record_of(numbers_at(numbers, slot_of(number)));
-            let state = carried.state;
-            let reading = read_loop(words, number, former_of(state));
-            admit_read(reading, carried, raw)
-        }
-    }
+    known_loop(numbers, number)?;
+    let k = number as u8;
+    let carried = record_of(numbers_at(numbers, slot_of(k)));
+    let reading = read_loop(words, k, former_of(carried.state));
+    admit_read(reading, carried, raw)
 }

@@ -5,17 +5,11 @@ ghost use Rattle.reading.specs.Reading.{table_of};
 ghost use Rattle.profile.specs.Forecasts.{forecast_of};
 ghost use Rattle.desk.specs.Desk.{lent, forecast_at};
 
-use crate::admitting::{Admission, admit};
+use crate::admitting::admit;
 use profile::Profile;
 use reading::table_at;
 use refusals::Refusal;
 use table::{PROFILE_TABLE, base_of, word_at};
-
-#[derive(Clone, Copy)]
-pub enum Foretold {
-    Refused(Refusal),
-    Samples(u64),
-}
 
 // The samples that remain where there is a program; else 0.
 fn remaining(words: &[u16], number: u8, on: bool, period: u16, p: Profile, setpoint: u16) -> u64
@@ -31,24 +25,17 @@ fn remaining(words: &[u16], number: u8, on: bool, period: u16, p: Profile, setpo
 }
 
 // Q11: the forecast of loop `number`.
-pub fn forecast(words: &[u16], numbers: &[i64], number: u64) -> Foretold
+pub fn forecast(words: &[u16], numbers: &[i64], number: u64) -> Result<u64, Refusal>
     ensures { result ≡ forecast_at (lent words.now numbers.now) number }
 {
-    let admission = admit(words, numbers, number, 0);
-    match admission {
-        Admission::Refused(why) => Foretold::Refused(why),
-        Admission::Sample(a) => {
-            let reading = a.reading;
-            let state = a.carried.state;
-            let profile = state.profile;
-            Foretold::Samples(remaining(
-                words,
-                number as u8,
-                reading.program.on,
-                reading.settings.tuning.period,
-                profile,
-                reading.settings.stored.setpoint,
-            ))
-        }
-    }
+    let a = admit(words, numbers, number, 0)?;
+    let reading = a.reading;
+    Ok(remaining(
+        words,
+        number as u8,
+        reading.program.on,
+        reading.settings.tuning.period,
+        a.carried.state.profile,
+        reading.settings.stored.setpoint,
+    ))
 }

@@ -14,10 +14,10 @@ mod showing;
 mod storing;
 
 pub use carried::{FIELDS, NUMBERS};
-pub use forecasting::{Foretold, forecast};
+pub use forecasting::forecast;
 pub use memory::fitting;
 pub use resetting::reset;
-pub use sampling::{Line, Sampled, sample};
+pub use sampling::{Line, sample};
 pub use showing::fields;
 pub use storing::{engine_word, store};
 pub use table::WORDS;

@@ -6,7 +6,7 @@ ghost use Rattle.carried.specs.Layout.{number_count};
 ghost use Rattle.desk.specs.Desk.{lent, fitting_of, no_loop, loop_cases};
 
 use carried::{NUMBERS, numbers_at, out_of_range, slot_of};
-use refusals::{Answer, Refusal};
+use refusals::Refusal;
 use table::{LOOPS, WORDS};
 
 const LAST_LOOP: u64 = LOOPS as u64;
@@ -21,19 +21,19 @@ pub fn fitting(words: &[u16], numbers: &[i64]) -> bool
 fn no_loop(number: u64) -> bool
     ensures { result ≡ no_loop number }
 {
-    (number < 1) | (LAST_LOOP < number)
+    !(1..=LAST_LOOP).contains(&number)
 }
 
 // N4, N5: there is such a loop, and its record is in range.
-pub(crate) fn known_loop(numbers: &[i64], number: u64) -> Answer
+pub(crate) fn known_loop(numbers: &[i64], number: u64) -> Result<(), Refusal>
     requires { length numbers.now ≡ number_count }
     ensures { result ≡ first_of (loop_cases numbers.now number) }
 {
     if no_loop(number) {
-        return Answer::Refused(Refusal::Loop);
+        return Err(Refusal::Loop);
     }
     if out_of_range(numbers_at(numbers, slot_of(number as u8))) {
-        return Answer::Refused(Refusal::Record);
+        return Err(Refusal::Record);
     }
-    Answer::Accepted
+    Ok(())
 }

@@ -4,22 +4,17 @@ ghost use Rattle.desk.specs.Desk.{fields_answer, fields_left};
 
 use crate::memory::known_loop;
 use carried::{FIELDS, NUMBERS, numbers_at, put_numbers, slot_of};
-use refusals::{Answer, Refusal};
+use refusals::Refusal;
 
 // Q4: the numbers of a loop's record copied out, if they are in range.
-pub fn fields(numbers: &[i64], number: u64, copied: &mut [i64; FIELDS]) -> Answer
+pub fn fields(numbers: &[i64], number: u64, copied: &mut [i64; FIELDS]) -> Result<(), Refusal>
     ensures answer { result ≡ fields_answer numbers.now number }
     ensures left { copied.new ≡ fields_left numbers.now number copied.old }
 {
     if numbers.len() != NUMBERS {
-        return Answer::Refused(Refusal::Memory);
+        return Err(Refusal::Memory);
     }
-    let known = known_loop(numbers, number);
-    match known {
-        Answer::Refused(why) => Answer::Refused(why),
-        Answer::Accepted => {
-            put_numbers(copied, 0, numbers_at(numbers, slot_of(number as u8)));
-            Answer::Accepted
-        }
-    }
+    known_loop(numbers, number)?;
+    put_numbers(copied, 0, numbers_at(numbers, slot_of(number as u8)));
+    Ok(())
 }

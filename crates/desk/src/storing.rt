@@ -3,7 +3,7 @@ ghost use Rattle.std.specs.Prelude.{◌≡◌};
 ghost use Rattle.desk.specs.Desk.{lent, engine_word, store_answer, store_left};
 
 use crate::memory::fitting;
-use refusals::{Answer, Refusal};
+use refusals::Refusal;
 use table::{BIAS, FIRST_FREE, LAST_ADDRESS, LOOP_WORDS, PROFILE_FAULT, PV, STATUS};
 
 // N6: the words of a loop that no store reaches: PV, bias and status, which samples write, and word 29.
@@ -13,34 +13,26 @@ pub fn engine_word(address: u64) -> bool
     if FIRST_FREE <= address {
         return false;
     }
-    let offset = address as usize % LOOP_WORDS;
-    if offset == PV {
-        return true;
-    }
-    if offset == BIAS {
-        return true;
-    }
-    if offset == STATUS {
-        return true;
-    }
-    offset == PROFILE_FAULT
+    matches!(
+        address as usize % LOOP_WORDS,
+        PV | BIAS | STATUS | PROFILE_FAULT
+    )
 }
 
 // Q2. No record is looked at; the numbers are lent whole all the same, as to every call.
-pub fn store(words: &mut [u16], numbers: &mut [i64], address: u64, value: u16) -> Answer
+pub fn store(words: &mut [u16], numbers: &mut [i64], address: u64, value: u16) -> Result<(), Refusal>
     ensures answer { result ≡ store_answer (lent words.old numbers.old) address }
     ensures left { lent words.new numbers.new ≡ store_left (lent words.old numbers.old) address value }
 {
     if !fitting(words, numbers) {
-        return Answer::Refused(Refusal::Memory);
+        return Err(Refusal::Memory);
     }
     if LAST_ADDRESS < address {
-        return Answer::Refused(Refusal::Store);
+        return Err(Refusal::Store);
     }
     if engine_word(address) {
-        return Answer::Refused(Refusal::Store);
+        return Err(Refusal::Store);
     }
-    let at = address as usize;
-    words[at] = value;
-    Answer::Accepted
+    words[address as usize] = value;
+    Ok(())
 }

@@ -1,5 +1,6 @@
 -- Words stored and samples taken of loop 1 by the definitions, and what is to stand in its words and its record afterwards: the cases of `Starred` and
 -- `Examples` are made here.
+use Rattle.std.specs.Prelude.{Ok, Err}
 use Prim.Native.Nat.{ℕ}
 use Prim.Native.String.{String}
 use mathlib.Core.List.{List, [], ◌∷◌, map}
@@ -12,9 +13,7 @@ use Rattle.numbers.specs.Distances.{apart}
 use Rattle.numbers.specs.Scales.{converted}
 use Rattle.numbers.specs.Roots.{root_within, root_of}
 use Rattle.numbers.specs.Fractions.{over, negᶠ, round_to}
-use Rattle.refusals.specs.declared.Answer.{Answer}
-use Rattle.refusals.specs.declared.Answer.TheVariants.{Accepted, Refused}
-use Rattle.refusals.specs.Refusals.{first_of}
+use Rattle.refusals.specs.Refusals.{first_of, Answer}
 use Rattle.table.specs.Words.{bcd, bad_digit}
 use Rattle.reading.specs.declared.reading.Reading.{Reading}
 use Rattle.reading.specs.Settings.{mode2_of, bad_digits, tuning_of, settings_of}
@@ -52,8 +51,8 @@ pub record Loop : Type 0 where
 
 -- a sample is judged by what it reads, and stepped where it is accepted
 abbrev pub sampled : Answer → Loop → Reading → ℕ → Loop
-sampled (Refused why) l r raw = l
-sampled Accepted l r raw =
+sampled (Err why) l r raw = l
+sampled (Ok _) l r raw =
     let s = step_of r l.carried (measured_of r raw) in
     record { words = written_to l.words 0 s.written; carried = s.carried }
 

@@ -1,4 +1,5 @@
 -- The worked loop and what one changed setting makes of it (X1 to X3), and the same in two formats (X6, M7), computed of the definitions.
+use Rattle.std.specs.Prelude.{Ok, Err}
 use Prim.Native.Nat.{ℕ}
 use mathlib.Core.Path.{◌≡◌, refl}
 use mathlib.Core.List.{List, [], ◌∷◌, ◌++◌, map}
@@ -9,9 +10,7 @@ use Rattle.numbers.specs.Rounding.{half_up, half_away}
 use Rattle.numbers.specs.Scales.{converted}
 use Rattle.numbers.specs.Roots.{root_within, root_of}
 use Rattle.numbers.specs.Fractions.{over, negᶠ, round_to}
-use Rattle.refusals.specs.declared.Answer.{Answer}
-use Rattle.refusals.specs.declared.Answer.TheVariants.{Accepted, Refused}
-use Rattle.refusals.specs.Refusals.{first_of}
+use Rattle.refusals.specs.Refusals.{first_of, Answer}
 use Rattle.reading.specs.declared.reading.Reading.{Reading}
 use Rattle.table.specs.Words.{bcd, bad_digit}
 use Rattle.reading.specs.Settings.{mode2_of, bad_digits, tuning_of, settings_of}
@@ -50,8 +49,8 @@ record Loop : Type 0 where
 
 -- a sample is judged by what it reads, and stepped where it is accepted
 sampled : Answer → Loop → Reading → ℕ → Loop
-sampled (Refused why) l r raw = l
-sampled Accepted l r raw =
+sampled (Err why) l r raw = l
+sampled (Ok _) l r raw =
     let s = step_of r l.carried (measured_of r raw) in
     record { words = written_to l.words 0 s.written; carried = s.carried }
 

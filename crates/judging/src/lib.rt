@@ -7,7 +7,7 @@ ghost use Rattle.refusals.specs.Refusals.{first_of};
 ghost use Rattle.judging.specs.Judging.{bad_modes, bad_times, bad_limits, bad_setpoint, setting_cases, bad_major};
 
 use reading::{Major, Mode1, OutputLimits, Reading, Tuning};
-use refusals::{Answer, Refusal};
+use refusals::Refusal;
 use table::{LAST_ADDRESS, is_cascade};
 
 const LEAST_PERIOD: u16 = 5; // 0.05 s
@@ -54,7 +54,7 @@ fn above(scale: u16, raw: u64) -> bool
 }
 
 // O4: the first refusal whose condition holds, in O3's order.
-pub fn judge(reading: Reading, raw: u64) -> Answer
+pub fn judge(reading: Reading, raw: u64) -> Result<(), Refusal>
     ensures { result ≡ first_of (setting_cases reading raw) }
 {
     let s = reading.settings;
@@ -65,24 +65,24 @@ pub fn judge(reading: Reading, raw: u64) -> Answer
     let scale = s.mode2.input.scale;
     let cascade = is_cascade(mode);
     if s.baddigit | reading.program.baddigit {
-        return Answer::Refused(Refusal::Digit);
+        return Err(Refusal::Digit);
     }
     if bad_modes(bits, s.mode2.unused, s.alarms.hysteresis) | reading.program.highend {
-        return Answer::Refused(Refusal::Setting);
+        return Err(Refusal::Setting);
     }
     if bad_times(tuning) {
-        return Answer::Refused(Refusal::Times);
+        return Err(Refusal::Times);
     }
     if bad_limits(limits, s.mode2.output.scale) {
-        return Answer::Refused(Refusal::Limits);
+        return Err(Refusal::Limits);
     }
     if bad_setpoint(cascade, scale, s.stored.setpoint, s.pointer, reading.remote) {
-        return Answer::Refused(Refusal::Setpoint);
+        return Err(Refusal::Setpoint);
     }
     if above(scale, raw) {
-        return Answer::Refused(Refusal::Above);
+        return Err(Refusal::Above);
     }
-    Answer::Accepted
+    Ok(())
 }
 
 // N11: at a transfer, no major loop, or a PV outside that loop's output limits.

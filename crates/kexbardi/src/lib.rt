@@ -12,7 +12,7 @@ ghost use Rattle.desk.specs.Desk.{lent, reset_answer, reset_left, store_answer, 
 ghost use Rattle.kexbardi.specs.Interface.{line_left};
 
 use desk::{FIELDS, Sampled};
-use refusals::{Answer, number_of};
+use refusals::number_of;
 
 // Q10: the version of functions and layout, major, minor and patch as MMmmpp: its one source (package/make).
 const VERSION: u32 = 50201;
@@ -63,7 +63,7 @@ pub extern "C" fn kexbardi_sample(
 {
     let sampled = desk::sample(words, records, number, raw);
     match sampled {
-        Sampled::Refused(why) => number_of(Answer::Refused(why)),
+        Sampled::Refused(why) => number_of(Err(why)),
         Sampled::Shown(l) => {
             *line = [l.setpoint, l.pv, l.output, l.status];
             0

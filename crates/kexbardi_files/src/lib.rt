@@ -9,7 +9,7 @@ ghost use Rattle.desk.specs.Desk.{lent};
 ghost use Rattle.session.specs.Session.{ended_of, left_of};
 ghost use Rattle.kexbardi_files.specs.Files.{ended, ended_by, answers_left, filled, print_left, setup_filled};
 
-use refusals::{Answer, MEMORY, number_of};
+use refusals::{MEMORY, number_of};
 use session::Ended;
 use setups::Wrote;
 
@@ -30,7 +30,7 @@ pub extern "C" fn kexbardi_run(
 {
     let how = session::run(file, words, records, answers);
     match how {
-        Ended::Stopped(why) => number_of(Answer::Refused(why)),
+        Ended::Stopped(why) => number_of(Err(why)),
         Ended::Counts(n, m) => {
             *count = n;
             *refused = m;
@@ -61,7 +61,7 @@ pub extern "C" fn kexbardi_setup(words: &[u16], out: &mut [u8], size: &mut usize
 {
     let wrote = setups::write_setup(words, out);
     match wrote {
-        Wrote::Refused(why) => number_of(Answer::Refused(why)),
+        Wrote::Refused(why) => number_of(Err(why)),
         Wrote::Bytes(n) => {
             *size = n;
             0

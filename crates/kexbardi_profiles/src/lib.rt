@@ -8,7 +8,7 @@ ghost use Rattle.desk.specs.Desk.{lent, forecast_at};
 ghost use Rattle.kexbardi_profiles.specs.Told.{told, told_by};
 
 use desk::Foretold;
-use refusals::{Answer, number_of};
+use refusals::number_of;
 
 // Q11: the samples that remain of a loop's profile. 5, 4, 5, 7, 8, 12, 13, 14 or 11, as a sample with raw PV 0 (9 cannot
 // happen), and then the count stays.
@@ -23,7 +23,7 @@ pub extern "C" fn kexbardi_forecast(
 {
     let answer = desk::forecast(words, records, number);
     match answer {
-        Foretold::Refused(why) => number_of(Answer::Refused(why)),
+        Foretold::Refused(why) => number_of(Err(why)),
         Foretold::Samples(n) => {
             *samples = n;
             0

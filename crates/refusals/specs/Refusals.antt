@@ -1,9 +1,7 @@
 -- The refusals with their numbers (N1 to N14), the number of an answer, and the first of several conditions that holds (O4).
-use Rattle.std.specs.Prelude.{ℕ, ◌≡◌, Bool, cond, ◌⊎◌, List, [], ◌∷◌}
+use Rattle.std.specs.Prelude.{ℕ, ◌≡◌, Bool, cond, ◌⊎◌, List, [], ◌∷◌, Result, Ok, Err}
 use Rattle.refusals.specs.declared.Refusal.{Refusal}
 use Rattle.refusals.specs.declared.Refusal.TheVariants.{Cut, Kind, Length, Loop, Memory, Record, Store, Digit, Setting, Times, Limits, Setpoint, Above, Room, Transfer}
-use Rattle.refusals.specs.declared.Answer.{Answer}
-use Rattle.refusals.specs.declared.Answer.TheVariants.{Accepted, Refused}
 pub mod Laws
 
 -- N1 to N14: the number of each refusal. Wrong lengths and a record out of range are both N5
@@ -24,10 +22,22 @@ number_of_refusal Above = 9
 number_of_refusal Room = 10
 number_of_refusal Transfer = 11
 
--- Q1 to Q6, Q11, Q12: the number of an answer, 0 where the call is accepted
+-- the answer to a call: accepted, or refused
+abbrev pub Answer : Type 0
+Answer = Result Unit Refusal
+
+abbrev pub accepted : Answer
+accepted = Ok tt
+
+-- Q1 to Q6, Q11, Q12: its number, 0 where the call is accepted
 abbrev pub number_of : Answer → ℕ
-number_of Accepted = 0
-number_of (Refused why) = number_of_refusal why
+number_of (Ok _) = 0
+number_of (Err why) = number_of_refusal why
+
+-- the same answer, with a value where the call is accepted
+abbrev pub accepted_with : {A : Type 0} → Answer → A → Result A Refusal
+accepted_with (Ok _) a = Ok a
+accepted_with (Err why) a = Err why
 
 -- a condition, and the refusal where it holds
 pub record Case : Type 0 where
@@ -40,8 +50,8 @@ b ⇒ why = record { holds = b; why = why }
 
 -- O4: the first that holds is the answer
 abbrev pub first_of : List Case → Answer
-first_of [] = Accepted
-first_of (x ∷ l) = cond x.holds (Refused x.why) (first_of l)
+first_of [] = accepted
+first_of (x ∷ l) = cond x.holds (Err x.why) (first_of l)
 
 -- ---- the same in statements
 

@@ -36,7 +36,7 @@ pub const SETTING_LIMITS: u8 = 13;
 
 pub const SETTING_SETPOINT: u8 = 14;
 
-#[derive(Clone, Copy)]
+#[derive(Clone, Copy, Debug, PartialEq, Eq)]
 pub enum Refusal {
     Cut, // N1: the file ends inside the record
     Kind, // N2: the record has no kind, or none that is known
@@ -55,19 +55,13 @@ pub enum Refusal {
     Transfer, // N11: a transfer without a major loop, or outside its output limits
 }
 
-#[derive(Clone, Copy)]
-pub enum Answer {
-    Accepted,
-    Refused(Refusal),
-}
-
-// The number of an answer.
-pub fn number_of(answer: Answer) -> u8
+// The number of an answer: 0 where the call is accepted.
+pub fn number_of(answer: Result<(), Refusal>) -> u8
     ensures { result ≡ number_of answer }
 {
     match answer {
-        Answer::Accepted => ACCEPTED,
-        Answer::Refused(why) => match why {
+        Ok(()) => ACCEPTED,
+        Err(why) => match why {
             Refusal::Cut => CUT,
             Refusal::Kind => KIND,
             Refusal::Length => LENGTH,

@@ -1,16 +1,12 @@
 -- A drill file carried out on a desk (L1, L8, Q5).
-use Rattle.std.specs.Prelude.{ℕ, ◌+◌, cond, List, [], ◌∷◌, replicate, eqb, ℤ}
+use Rattle.desk.specs.declared.sampling.Line.{Line}
+use Rattle.std.specs.Prelude.{ℕ, ◌+◌, cond, List, [], ◌∷◌, replicate, eqb, ℤ, Err, Result, Ok}
 use Rattle.refusals.specs.declared.Refusal.{Refusal}
 use Rattle.refusals.specs.declared.Refusal.TheVariants.{Memory}
-use Rattle.refusals.specs.declared.Answer.{Answer}
-use Rattle.refusals.specs.declared.Answer.TheVariants.{Refused as No}
-use Rattle.refusals.specs.Refusals.{number_of}
+use Rattle.refusals.specs.Refusals.{number_of, Answer}
 use Rattle.reader.specs.declared.Record.{Record}
 use Rattle.reader.specs.declared.Record.TheVariants.{Store, Sample, Refused}
 use Rattle.reader.specs.File.{records_of}
-use Rattle.desk.specs.declared.sampling.Sampled.{Sampled}
-use Rattle.desk.specs.declared.sampling.Sampled.TheVariants.{Shown}
-use Rattle.desk.specs.declared.sampling.Sampled.TheVariants.{Refused as Unshown}
 use Rattle.desk.specs.Desk.{Desk, lent, fitting_of, answer_shown, sampled_at}
 use Rattle.desk.specs.Lists.{Call, store, sample, answer_to, desk_after}
 use Rattle.session.specs.declared.turn.Acted.{Acted}
@@ -28,7 +24,7 @@ by_call call none (Refused why) = none why
 
 -- Q5: its answer, and the number of that: 0 where it is carried out
 abbrev pub answer_for : Desk → Record → Answer
-answer_for d x = by_call (answer_to d) (λ why. No why) x
+answer_for d x = by_call (answer_to d) (λ why. Err why) x
 
 abbrev pub number_for : Desk → Record → ℕ
 number_for d x = number_of (answer_for d x)
@@ -42,9 +38,9 @@ abbrev pub count_of : ℕ → ℕ
 count_of number = cond (eqb number 0) 0 1
 
 -- L9: what is shown of the loop of a sample that is carried out
-abbrev pub shown_of : Sampled → List ℕ
-shown_of (Shown l) = l.setpoint ∷ l.pv ∷ l.output ∷ l.status ∷ []
-shown_of (Unshown why) = replicate 4 0
+abbrev pub shown_of : Result Line Refusal → List ℕ
+shown_of (Ok l) = l.setpoint ∷ l.pv ∷ l.output ∷ l.status ∷ []
+shown_of (Err why) = replicate 4 0
 
 abbrev pub shown_for : Desk → Record → List ℕ
 shown_for d (Store address value) = replicate 4 0
@@ -55,7 +51,7 @@ shown_for d (Refused why) = replicate 4 0
 abbrev pub acted_for : Desk → Record → Acted
 acted_for d x = record { number = number_for d x; line = shown_for d x }
 
-abbrev pub acted_by : Sampled → Acted
+abbrev pub acted_by : Result Line Refusal → Acted
 acted_by s = record { number = number_of (answer_shown s); line = shown_of s }
 
 -- ---- a list of records

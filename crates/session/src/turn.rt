@@ -5,7 +5,7 @@ ghost use Rattle.session.specs.Session.{left_for, acted_for, acted_by, count_of}
 
 use desk::Sampled;
 use reader::Record;
-use refusals::{Answer, number_of};
+use refusals::number_of;
 
 // The number of its answer, 0 where it was carried out, else that of the refusal; and of such a sample what is shown.
 #[derive(Clone, Copy)]
@@ -19,7 +19,7 @@ fn shown(sampled: Sampled) -> Acted
 {
     match sampled {
         Sampled::Refused(why) => Acted {
-            number: number_of(Answer::Refused(why)),
+            number: number_of(Err(why)),
             line: [0; 4],
         },
         Sampled::Shown(l) => Acted {
@@ -42,7 +42,7 @@ pub(crate) fn act(item: Record, words: &mut [u16], numbers: &mut [i64]) -> Acted
             shown(desk::sample(words, numbers, number as u64, raw as u64))
         }
         Record::Refused(why) => Acted {
-            number: number_of(Answer::Refused(why)),
+            number: number_of(Err(why)),
             line: [0; 4],
         },
     }

@@ -1,10 +1,8 @@
 -- The setup file of a desk's words (L13), and what its writer answers and leaves (Q12).
-use Rattle.std.specs.Prelude.{ℕ, suc, ◌/◌, ◌%◌, Bool, cond, not, ◌&&◌, List, [], ◌∷◌, ◌++◌, ltb, eqb, length}
+use Rattle.std.specs.Prelude.{ℕ, suc, ◌/◌, ◌%◌, Bool, cond, not, ◌&&◌, List, [], ◌∷◌, ◌++◌, ltb, eqb, length, Ok, Err}
 use Rattle.std.proofs.lemmas.List.Edits.{sets}
 use Rattle.refusals.specs.declared.Refusal.TheVariants.{Memory, Room}
-use Rattle.refusals.specs.declared.Answer.{Answer}
-use Rattle.refusals.specs.declared.Answer.TheVariants.{Accepted, Refused}
-use Rattle.refusals.specs.Refusals.{Case, ◌⇒◌, first_of}
+use Rattle.refusals.specs.Refusals.{Case, ◌⇒◌, first_of, Answer}
 use Rattle.reader.specs.declared.Record.{Record}
 use Rattle.reader.specs.declared.Record.TheVariants.{Store}
 use Rattle.desk.specs.Desk.{engine_word}
@@ -46,16 +44,16 @@ abbrev pub setup_cases : List ℕ → ℕ → List Case
 setup_cases words room = (not (eqb (length words) 1024) ⇒ Memory) ∷ (ltb room (length (setup_of words)) ⇒ Room) ∷ []
 
 abbrev pub wrote_by : Answer → ℕ → Wrote
-wrote_by Accepted n = Bytes n
-wrote_by (Refused why) n = No why
+wrote_by (Ok _) n = Bytes n
+wrote_by (Err why) n = No why
 
 -- Q12: the first of these, or the file's length
 unfoldable pub setup_answer : List ℕ → ℕ → Wrote
 setup_answer words room = wrote_by (first_of (setup_cases words room)) (length (setup_of words))
 
 abbrev pub filled_by : Answer → List ℕ → List ℕ → List ℕ
-filled_by Accepted file out = sets out 0 file
-filled_by (Refused why) file out = out
+filled_by (Ok _) file out = sets out 0 file
+filled_by (Err why) file out = out
 
 -- Q12, Q8: the file at the start of the room, which is else as it was
 unfoldable pub setup_left : List ℕ → List ℕ → List ℕ

@@ -1,18 +1,16 @@
 -- The laws of the calls: a refused one leaves the desk, what an accepted one is known to be, and a loop's record after each.
 use Rattle.std.specs.Prelude.{ℕ, ◌+◌, ◌≤◌, ◌<◌, refl, Bool, true, false, cond, ltb, eqb, ℤ, pos, length, replicate}
-use Rattle.std.proofs.Common.{arith, add-zero, ◌∙◌, length-take, length-drop, length-set}
+use Rattle.std.proofs.Common.{arith, add-zero, ◌∙◌, length-take, length-drop, length-set, Ok, Err}
 use Rattle.std.proofs.Math.Path.{◌≡◌, sym, ap, subst}
 use mathlib.Core.List.{List, ◌∷◌, ◌++◌}
 use Rattle.std.proofs.Math.ListN.{get_or, set}
 use Rattle.std.proofs.lemmas.List.Edits.{sets}
 use Rattle.std.proofs.Math.Seq.{length-sets, get_or-set_same, get_or-set_other}
 use borrow.Author.Tests.{eqb-true, eqb-false, not-false, ltb-false, le-ltb}
-use Rattle.refusals.specs.declared.Answer.{Answer}
-use Rattle.refusals.specs.declared.Answer.TheVariants.{Accepted, Refused}
 use Rattle.refusals.specs.declared.Refusal.{Refusal}
 use Rattle.refusals.specs.declared.Refusal.TheVariants.{Record}
-use Rattle.refusals.specs.Refusals.{◌⇒◌, first_of}
-use Rattle.refusals.specs.Refusals.Laws.{accepted_at, accepted_rest, refused_first, accepted_first}
+use Rattle.refusals.specs.Refusals.{◌⇒◌, first_of, Answer, accepted, accepted_with}
+use Rattle.refusals.specs.Refusals.Laws.{refused_with, granted_with, accepted_at, accepted_rest, refused_first, accepted_first}
 use Rattle.reading.specs.Reading.{reading_of}
 use Rattle.table.specs.Words.{base_of, block_at}
 use Rattle.table.specs.Words.Laws.{or_false, and_true, block_apart}
@@ -29,12 +27,8 @@ use Rattle.engine.specs.Writing.Laws.{There as Written, Other as Unwritten, writ
 use Rattle.engine.proofs.Laws.Steps.{usable, stepped_ranged}
 use Rattle.engine.specs.Premises.{Usable}
 use Rattle.desk.specs.declared.admitting.Admitted.{Admitted}
-use Rattle.desk.specs.declared.admitting.Admission.TheVariants.{Sample}
-use Rattle.desk.specs.declared.admitting.Admission.TheVariants.{Refused as Turned}
 use Rattle.desk.specs.declared.sampling.Line.{Line}
-use Rattle.desk.specs.declared.sampling.Sampled.TheVariants.{Shown}
-use Rattle.desk.specs.declared.sampling.Sampled.TheVariants.{Refused as Unshown}
-use Rattle.desk.specs.Desk.{Desk, lent, fitting_of, memory_cases, left_by, reset_desk, reset_answer, reset_left, no_loop, loop_cases, reading_at, pv_at, sample_answer, admitted_at, admission_by, admission_at, step_at, marks, transfer_left, done_by, sample_done, sample_left, line_at, shown_by, answer_shown, sampled_at, copied_by}
+use Rattle.desk.specs.Desk.{Desk, lent, fitting_of, memory_cases, left_by, reset_desk, reset_answer, reset_left, no_loop, loop_cases, reading_at, pv_at, sample_answer, admitted_at, admission_at, step_at, marks, transfer_left, done_by, sample_done, sample_left, line_at, answer_shown, sampled_at, copied_by}
 
 -- ---- any call
 
@@ -58,7 +52,7 @@ sound d e =
     record { words = eqb-true _ _ p.0; numbers = eqb-true _ _ p.1 }
 
 -- where a call with such a case is accepted
-pub fits : (d : Desk) → first_of (memory_cases d) ≡ Accepted → fitting_of d ≡ true
+pub fits : (d : Desk) → first_of (memory_cases d) ≡ accepted → fitting_of d ≡ true
 fits d e = not-false _ (accepted_at (memory_cases d) e 0)
 
 -- ---- a loop that there is, with its record in range
@@ -79,40 +73,32 @@ there_loop k above below = rw (le-ltb k 1 above, le-ltb 16 k below)
 pub known : (ns : List ℤ) (k : ℕ) → no_loop k ≡ false → out_of_range (numbers_at ns (slot_of k)) ≡ false → Known ns k
 known ns k e f = let p = loop_there k e in record { above = p.0; below = p.1; range = f }
 
-pub known_loop_lem : (ns : List ℤ) (k : ℕ) → first_of (loop_cases ns k) ≡ Accepted → Known ns k
+pub known_loop_lem : (ns : List ℤ) (k : ℕ) → first_of (loop_cases ns k) ≡ accepted → Known ns k
 known_loop_lem ns k e = let no = accepted_at (loop_cases ns k) e in known ns k (no 0) (no 1)
 
 -- ---- a sample's tests, one group after the other
 
 module _ (d : Desk) (k raw : ℕ) (fit : fitting_of d ≡ true) where
   -- where there is no such loop, or its record is out of range
-  pub loop_refused : {why : Refusal} → first_of (loop_cases d.numbers k) ≡ Refused why → sample_answer d k raw ≡ Refused why
+  pub loop_refused : {why : Refusal} → first_of (loop_cases d.numbers k) ≡ Err why → sample_answer d k raw ≡ Err why
   unfolding sample_answer
   loop_refused e = rw fit (refused_first (loop_cases d.numbers k) (reading_cases (reading_at d k) raw) e)
 
   -- else what is read decides
-  pub past_loop : first_of (loop_cases d.numbers k) ≡ Accepted → sample_answer d k raw ≡ first_of (reading_cases (reading_at d k) raw)
+  pub past_loop : first_of (loop_cases d.numbers k) ≡ accepted → sample_answer d k raw ≡ first_of (reading_cases (reading_at d k) raw)
   unfolding sample_answer
   past_loop e = rw fit (accepted_first (loop_cases d.numbers k) (reading_cases (reading_at d k) raw) e)
 
 -- ---- an admission
 
 module _ (d : Desk) (k raw : ℕ) where
-  pub admission_refused : {why : Refusal} → admission_at d k raw ≡ Turned why → sample_answer d k raw ≡ Refused why
+  pub admission_refused : {why : Refusal} → admission_at d k raw ≡ Err why → sample_answer d k raw ≡ Err why
   unfolding admission_at
-  admission_refused = by (sample_answer d k raw)
-    where
-      by : (a : Answer) {why : Refusal} → admission_by a (admitted_at d k raw) ≡ Turned why → a ≡ Refused why
-      by Accepted e = absurd (let z : ◌≡◌ {A = ℕ} 0 1 = cc in omega arith)
-      by (Refused other) e = cc
+  admission_refused = refused_with (admitted_at d k raw) (sample_answer d k raw)
 
-  pub admission_sample : {a : Admitted} → admission_at d k raw ≡ Sample a → (sample_answer d k raw ≡ Accepted) × (a ≡ admitted_at d k raw)
+  pub admission_sample : {a : Admitted} → admission_at d k raw ≡ Ok a → (sample_answer d k raw ≡ accepted) × (a ≡ admitted_at d k raw)
   unfolding admission_at
-  admission_sample = by (sample_answer d k raw)
-    where
-      by : (x : Answer) {a : Admitted} → admission_by x (admitted_at d k raw) ≡ Sample a → (x ≡ Accepted) × (a ≡ admitted_at d k raw)
-      by Accepted e = (refl, cc)
-      by (Refused why) e = absurd (let z : ◌≡◌ {A = ℕ} 0 1 = cc in omega arith)
+  admission_sample = granted_with (admitted_at d k raw) (sample_answer d k raw)
 
 -- ---- an accepted sample
 
@@ -124,7 +110,7 @@ pub record Sampled (d : Desk) (k raw : ℕ) : Type 0 where
   pub reading : Usable (reading_at d k) (pv_at d k raw)
   pub transfer : (reading_at d k).transfer ≡ true → MajorGood (reading_at d k).major (pv_at d k raw)
 
-pub sampled : (d : Desk) (k raw : ℕ) → sample_answer d k raw ≡ Accepted → Sampled d k raw
+pub sampled : (d : Desk) (k raw : ℕ) → sample_answer d k raw ≡ accepted → Sampled d k raw
 unfolding sample_answer
 sampled d k raw e =
     let p = accepted_rest (memory_cases d) (loop_cases d.numbers k ++ reading_cases (reading_at d k) raw) e in
@@ -298,13 +284,13 @@ module _ (d : Desk) (k raw : ℕ) (s : Sampled d k raw) where
 -- ---- what a sample answers and leaves
 
 -- of a refused one nothing is shown, and nothing changes
-pub shown_refused : (d : Desk) (k raw : ℕ) {why : Refusal} → sample_answer d k raw ≡ Refused why → (Unshown why ≡ sampled_at d k raw) × (d ≡ sample_left d k raw)
+pub shown_refused : (d : Desk) (k raw : ℕ) {why : Refusal} → sample_answer d k raw ≡ Err why → (Err why ≡ sampled_at d k raw) × (d ≡ sample_left d k raw)
 unfolding sampled_at sample_left
 shown_refused d k raw e = (rw e, rw e)
 
 -- of an accepted one the words that were written are shown
-pub shown_done : (d : Desk) (k raw : ℕ) → sample_answer d k raw ≡ Accepted → let w = (step_at d k raw).written in
-    (Shown (record { setpoint = w.setpoint; pv = w.pv; output = w.output; status = w.status }) ≡ sampled_at d k raw)
+pub shown_done : (d : Desk) (k raw : ℕ) → sample_answer d k raw ≡ accepted → let w = (step_at d k raw).written in
+    (Ok (record { setpoint = w.setpoint; pv = w.pv; output = w.output; status = w.status }) ≡ sampled_at d k raw)
     × (sample_done d k raw ≡ sample_left d k raw)
 unfolding sampled_at sample_left
 shown_done d k raw e =
@@ -316,17 +302,13 @@ pub answer_shown_lem : (d : Desk) (k raw : ℕ) → answer_shown (sampled_at d k
 unfolding sampled_at
 answer_shown_lem d k raw = by (sample_answer d k raw) (line_at (sample_left d k raw).words k)
   where
-    by : (a : Answer) (l : Line) → answer_shown (shown_by a l) ≡ a
-    by Accepted l = refl
-    by (Refused why) l = refl
+    by : (a : Answer) (l : Line) → answer_shown (accepted_with a l) ≡ a
+    by (Ok _) l = refl
+    by (Err why) l = refl
 
-pub line_shown : (d : Desk) (k raw : ℕ) {l : Line} → sampled_at d k raw ≡ Shown l → l ≡ line_at (sample_left d k raw).words k
+pub line_shown : (d : Desk) (k raw : ℕ) {l : Line} → sampled_at d k raw ≡ Ok l → l ≡ line_at (sample_left d k raw).words k
 unfolding sampled_at
-line_shown d k raw = by (sample_answer d k raw) (line_at (sample_left d k raw).words k)
-  where
-    by : (a : Answer) (m : Line) {l : Line} → shown_by a m ≡ Shown l → l ≡ m
-    by Accepted m e = cc
-    by (Refused why) m e = absurd (let z : ◌≡◌ {A = ℕ} 0 1 = cc in omega arith)
+line_shown d k raw e = (granted_with (line_at (sample_left d k raw).words k) (sample_answer d k raw) e).1
 
 -- the major loop is none above 16
 pub major_few : (d : Desk) (k : ℕ) → (reading_at d k).major.number ≤ 16
@@ -357,9 +339,9 @@ reset_fresh = reset_sound _ refl
 
 -- and so what clearing both leaves is what a reset leaves
 pub reset_done : (d : Desk) → fitting_of d ≡ true → {ws : List ℕ} {ns : List ℤ} → ws ≡ replicate (length d.words) 0
-    → ns ≡ replicate (length d.numbers) (pos 0) → (Accepted ≡ reset_answer d) × (lent ws ns ≡ reset_left d)
+    → ns ≡ replicate (length d.numbers) (pos 0) → (accepted ≡ reset_answer d) × (lent ws ns ≡ reset_left d)
 unfolding reset_answer reset_left
 reset_done d fit e f =
     let s = sound d fit in
-    let answer : first_of (memory_cases d) ≡ Accepted = rw fit in
+    let answer : first_of (memory_cases d) ≡ accepted = rw fit in
     (sym answer, rw (answer, e, f, s.words, s.numbers) (sym reset_numbers))

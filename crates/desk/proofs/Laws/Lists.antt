@@ -1,13 +1,11 @@
 -- The laws of lists of calls: what is refused leaves the desk, and lists one behind the other.
 use Rattle.std.specs.Prelude.{ℕ, ◌+◌, ◌≤◌, ◌<◌, ◌≡◌, refl, Bool, true, false, eqb, pos, length, drop, replicate}
-use Rattle.std.proofs.Common.{arith, sym, ap, ◌∙◌, length-take, length-drop, ext_get_or, get_or-take, get_or-drop, eqb-true}
+use Rattle.std.proofs.Common.{arith, sym, ap, ◌∙◌, length-take, length-drop, ext_get_or, get_or-take, get_or-drop, eqb-true, Ok, Err}
 use mathlib.Core.List.{List, [], ◌∷◌, ◌++◌}
 use Rattle.std.proofs.lemmas.List.{get_or-replicate}
 use Rattle.std.proofs.lemmas.Bool.{eqb-false}
 use Rattle.refusals.specs.declared.Refusal.TheVariants.{Memory}
-use Rattle.refusals.specs.declared.Answer.{Answer}
-use Rattle.refusals.specs.declared.Answer.TheVariants.{Accepted, Refused}
-use Rattle.refusals.specs.Refusals.{number_of}
+use Rattle.refusals.specs.Refusals.{number_of, Answer, accepted}
 use Rattle.carried.specs.Layout.{field_count, number_count, slot_of, out_of_range, numbers_at}
 use Rattle.desk.specs.Desk.{Desk, fitting_of, left_by, reset_desk, reset_answer, reset_left, store_answer, store_left, sample_done, sample_answer, sample_left}
 use Rattle.desk.proofs.Laws.Desk.{sound, fits, reset_numbers, sampled, done_lengths, own_range, other_range}
@@ -15,8 +13,8 @@ use Rattle.desk.specs.Lists.{Call, reset, store, sample, answer_to, desk_after, 
 
 -- by an answer with a number above 0
 refused_by : (a : Answer) (after before : Desk) → 0 < number_of a → left_by a after before ≡ before
-refused_by Accepted after before h = absurd (omega arith)
-refused_by (Refused why) after before h = refl
+refused_by (Ok _) after before h = absurd (omega arith)
+refused_by (Err why) after before h = refl
 
 -- a call whose answer's number is not 0 leaves all words and all numbers
 pub refused_call : (d : Desk) (call : Call) → 0 < number_of (answer_to d call) → desk_after d call ≡ d
@@ -28,7 +26,7 @@ refused_call d (sample k raw) h = refused_by (sample_answer d k raw) _ d h
 -- ---- memory of the wrong lengths
 
 -- refuses every call, with 5
-pub unfit : (d : Desk) → fitting_of d ≡ false → (call : Call) → answer_to d call ≡ Refused Memory
+pub unfit : (d : Desk) → fitting_of d ≡ false → (call : Call) → answer_to d call ≡ Err Memory
 unfolding answer_to reset_answer store_answer sample_answer
 unfit d e reset = rw e
 unfit d e (store address value) = rw e
@@ -37,9 +35,9 @@ unfit d e (sample k raw) = rw e
 -- ---- what a call leaves
 
 -- by its answer
-pub by_answer : (P : Desk → Type 0) (a : Answer) {after before : Desk} → (a ≡ Accepted → P after) → P before → P (left_by a after before)
-by_answer P Accepted f h = f refl
-by_answer P (Refused why) f h = h
+pub by_answer : (P : Desk → Type 0) (a : Answer) {after before : Desk} → (a ≡ accepted → P after) → P before → P (left_by a after before)
+by_answer P (Ok _) f h = f refl
+by_answer P (Err why) f h = h
 
 -- the numbers keep their length
 pub numbers_kept : (d : Desk) (call : Call) → length (desk_after d call).numbers ≡ length d.numbers
@@ -76,7 +74,7 @@ module _ (k : ℕ) (above : 1 ≤ k) where
   unfolding out_of_range
   reset_range below = rw (reset_numbers, zeros below)
 
-  sample_range : k ≤ 16 → (d : Desk) (j raw : ℕ) → InRange d → sample_answer d j raw ≡ Accepted → InRange (sample_done d j raw)
+  sample_range : k ≤ 16 → (d : Desk) (j raw : ℕ) → InRange d → sample_answer d j raw ≡ accepted → InRange (sample_done d j raw)
   sample_range below d j raw h e = go (eqb j k) refl
     where
       go : (t : Bool) → eqb j k ≡ t → InRange (sample_done d j raw)

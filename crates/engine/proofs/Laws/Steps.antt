@@ -5,8 +5,7 @@ use Rattle.std.proofs.Math.Bool.{or-true}
 use Rattle.numbers.specs.Limits.Laws.{by_test}
 use Rattle.numbers.specs.Rounding.{nearest_count}
 use Rattle.numbers.proofs.Laws.Rounding.{half_up_whole}
-use Rattle.refusals.specs.declared.Answer.TheVariants.{Accepted}
-use Rattle.refusals.specs.Refusals.{first_of}
+use Rattle.refusals.specs.Refusals.{first_of, accepted}
 use Rattle.table.specs.declared.format.Format.{Format}
 use Rattle.reading.specs.declared.settings.Settings.{Settings}
 use Rattle.reading.specs.declared.reading.Former.{Former}
@@ -35,7 +34,7 @@ use Rattle.engine.specs.Premises.{Usable, Drivable}
 
 -- the reading and the PV of an accepted sample
 pub usable : (ws : List ℕ) (k : ℕ) (former : Former) (raw : ℕ) → former.segment ≤ 16 → let r = reading_of ws k former in
-    first_of (reading_cases r raw) ≡ Accepted → Usable r (measured_of r raw)
+    first_of (reading_cases r raw) ≡ accepted → Usable r (measured_of r raw)
 unfolding setpoint_of
 usable ws k former raw few e =
     let r = reading_of ws k former in

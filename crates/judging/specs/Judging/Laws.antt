@@ -2,8 +2,7 @@
 use Rattle.std.specs.Prelude.{ℕ, ◌≤◌, ◌<◌, ◌≡◌, Bool, true, false, cond, ◌||◌, ltb, eqb}
 use Rattle.std.proofs.Common.{arith, ltb-false, le-ltb, ne_eqb}
 use Rattle.std.proofs.lemmas.Bool.{eqb-false}
-use Rattle.refusals.specs.declared.Answer.TheVariants.{Accepted}
-use Rattle.refusals.specs.Refusals.{first_of}
+use Rattle.refusals.specs.Refusals.{first_of, accepted}
 use Rattle.refusals.specs.Refusals.Laws.{accepted_at}
 use Rattle.reading.specs.declared.settings.Tuning.{Tuning}
 use Rattle.reading.specs.declared.settings.OutputLimits.{OutputLimits}
@@ -12,7 +11,7 @@ use Rattle.reading.specs.declared.reading.Reading.{Reading}
 use Rattle.table.specs.Words.Laws.{or_false}
 use Rattle.judging.specs.Judging.{bad_modes, bad_times, bad_limits, bad_setpoint, bad_major, reading_cases, Passed}
 
-pub passed : (r : Reading) (raw : ℕ) → first_of (reading_cases r raw) ≡ Accepted → Passed r raw
+pub passed : (r : Reading) (raw : ℕ) → first_of (reading_cases r raw) ≡ accepted → Passed r raw
 passed r raw e =
     let no = accepted_at (reading_cases r raw) e in
     let s = r.settings in

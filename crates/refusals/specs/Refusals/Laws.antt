@@ -1,12 +1,10 @@
 -- The laws of the refusals: a number above 0 is a refusal's, where a list of cases accepts no condition of it holds, and else the first that holds is reported.
-use Rattle.std.specs.Prelude.{ℕ, zero, suc, ◌≤◌, ◌<◌, ◌≡◌, refl, Bool, true, false, cond, List, [], ◌∷◌, ◌++◌}
+use Rattle.std.specs.Prelude.{ℕ, zero, suc, ◌≤◌, ◌<◌, ◌≡◌, refl, Bool, true, false, cond, List, [], ◌∷◌, ◌++◌, Ok, Err}
 use Rattle.std.proofs.Common.{arith, sym, ◌∙◌, inl, inr}
 use Rattle.refusals.specs.declared.Refusal.{Refusal}
 use Rattle.refusals.specs.declared.Refusal.TheVariants.{Cut, Kind, Length, Loop, Memory, Record, Store, Digit, Setting, Times, Limits, Setpoint, Above, Room, Transfer}
-use Rattle.refusals.specs.declared.Answer.{Answer}
-use Rattle.refusals.specs.declared.Answer.TheVariants.{Accepted, Refused}
 use Rattle.refusals.specs.Decides.{Decides}
-use Rattle.refusals.specs.Refusals.{number_of_refusal, number_of, Case, first_of, OneOf, Row, FirstIn}
+use Rattle.refusals.specs.Refusals.{number_of_refusal, Answer, accepted, number_of, accepted_with, Case, first_of, OneOf, Row, FirstIn}
 
 -- ---- numbers
 
@@ -29,17 +27,27 @@ in_table Room = omega arith
 in_table Transfer = omega arith
 
 -- an answer of 0 is an acceptance
-pub accepted_only : (a : Answer) → number_of a ≡ 0 → a ≡ Accepted
-accepted_only Accepted e = refl
-accepted_only (Refused why) e = absurd (omega (arith, in_table why))
+pub accepted_only : (a : Answer) → number_of a ≡ 0 → a ≡ accepted
+accepted_only (Ok _) e = refl
+accepted_only (Err why) e = absurd (omega (arith, in_table why))
 
 -- a refusal is no acceptance
-pub never : {why : Refusal} → Refused why ≡ Accepted → ⊥
+pub never : {why : Refusal} → Err why ≡ accepted → ⊥
 never e = let z : ◌≡◌ {A = ℕ} 0 1 = cc in omega arith
+
+-- ---- an answer with a value
+
+pub refused_with : {A : Type 0} (x : A) (a : Answer) {why : Refusal} → accepted_with a x ≡ Err why → a ≡ Err why
+refused_with x (Ok _) e = absurd (let z : ◌≡◌ {A = ℕ} 0 1 = cc in omega arith)
+refused_with x (Err other) e = cc
+
+pub granted_with : {A : Type 0} (x : A) (a : Answer) {y : A} → accepted_with a x ≡ Ok y → (a ≡ accepted) × (y ≡ x)
+granted_with x (Ok _) e = (refl, cc)
+granted_with x (Err why) e = absurd (let z : ◌≡◌ {A = ℕ} 0 1 = cc in omega arith)
 
 -- ---- lists of cases
 
-passed : (b : Bool) (why : Refusal) (rest : Answer) → cond b (Refused why) rest ≡ Accepted → (b ≡ false) × (rest ≡ Accepted)
+passed : (b : Bool) (why : Refusal) (rest : Answer) → cond b (Err why) rest ≡ accepted → (b ≡ false) × (rest ≡ accepted)
 passed true why rest e = absurd (never e)
 passed false why rest e = (refl, e)
 
@@ -50,13 +58,13 @@ holds_at (x ∷ l) zero = x.holds
 holds_at (x ∷ l) (suc i) = holds_at l i
 
 -- where none is refused, no condition holds
-pub accepted_at : (l : List Case) → first_of l ≡ Accepted → (i : ℕ) → holds_at l i ≡ false
+pub accepted_at : (l : List Case) → first_of l ≡ accepted → (i : ℕ) → holds_at l i ≡ false
 accepted_at [] e i = refl
 accepted_at (x ∷ l) e zero = (passed x.holds x.why (first_of l) e).0
 accepted_at (x ∷ l) e (suc i) = accepted_at l (passed x.holds x.why (first_of l) e).1 i
 
 -- and so of a list that goes on
-pub accepted_rest : (l m : List Case) → first_of (l ++ m) ≡ Accepted → (first_of l ≡ Accepted) × (first_of m ≡ Accepted)
+pub accepted_rest : (l m : List Case) → first_of (l ++ m) ≡ accepted → (first_of l ≡ accepted) × (first_of m ≡ accepted)
 accepted_rest [] m e = (refl, e)
 accepted_rest (x ∷ l) m e =
     let p = passed x.holds x.why (first_of (l ++ m)) e in
@@ -64,16 +72,16 @@ accepted_rest (x ∷ l) m e =
     (rw p.0 q.0, q.1)
 
 -- a list that refuses refuses so, whatever follows; one that accepts leaves the answer to what follows
-pub refused_first : (l m : List Case) {why : Refusal} → first_of l ≡ Refused why → first_of (l ++ m) ≡ Refused why
+pub refused_first : (l m : List Case) {why : Refusal} → first_of l ≡ Err why → first_of (l ++ m) ≡ Err why
 refused_first [] m e = absurd (never (sym e))
 refused_first (x ∷ l) m {why} e = go x.holds (refused_first l m) e
   where
-    go : (b : Bool) → (first_of l ≡ Refused why → first_of (l ++ m) ≡ Refused why) → cond b (Refused x.why) (first_of l) ≡ Refused why
-        → cond b (Refused x.why) (first_of (l ++ m)) ≡ Refused why
+    go : (b : Bool) → (first_of l ≡ Err why → first_of (l ++ m) ≡ Err why) → cond b (Err x.why) (first_of l) ≡ Err why
+        → cond b (Err x.why) (first_of (l ++ m)) ≡ Err why
     go true rest e = e
     go false rest e = rest e
 
-pub accepted_first : (l m : List Case) → first_of l ≡ Accepted → first_of (l ++ m) ≡ first_of m
+pub accepted_first : (l m : List Case) → first_of l ≡ accepted → first_of (l ++ m) ≡ first_of m
 accepted_first [] m e = refl
 accepted_first (x ∷ l) m e = let p = passed x.holds x.why (first_of l) e in rw p.0 (accepted_first l m p.1)
 
@@ -87,7 +95,7 @@ pub first_of_kind : (P : ℕ → Type 0) → P 0 → (l : List Case) → Each P 
 first_of_kind P none [] h = none
 first_of_kind P none (x ∷ l) h = go x.holds (first_of_kind P none l h.1)
   where
-    go : (b : Bool) → P (number_of (first_of l)) → P (number_of (cond b (Refused x.why) (first_of l)))
+    go : (b : Bool) → P (number_of (first_of l)) → P (number_of (cond b (Err x.why) (first_of l)))
     go true rest = h.0
     go false rest = rest
 
@@ -107,7 +115,7 @@ first_reported (x ∷ l) [] none = elim none [ ]
 first_reported (x ∷ l) (row ∷ rows) (tests e d rest) = go x.holds d (λ f. first_reported l rows (rest f))
   where
     go : (b : Bool) → Decides b (OneOf row.causes) → (b ≡ false → FirstIn rows (number_of (first_of l)))
-        → FirstIn (row ∷ rows) (number_of (cond b (Refused x.why) (first_of l)))
+        → FirstIn (row ∷ rows) (number_of (cond b (Err x.why) (first_of l)))
     go true d rest = inl (d.yes refl, e)
     go false d rest = inr (d.no refl, rest refl)
 

@@ -2,9 +2,7 @@
 use Rattle.std.specs.Prelude.{ℕ, zero, suc, ◌+◌, ◌*◌, ◌≤◌, ◌<◌, ◌≡◌, refl, Bool, true, false, cond, not, ◌&&◌, List, [], ◌∷◌, ◌++◌, eqb, length, get_or, drop}
 use Rattle.std.proofs.Common.{arith, add-suc, add-zero, suc-add, add-one, sym, ap, ◌∙◌, append_assoc, length-append, drop_of_length-le, get_or-append-add, drop-cons, le-ltb}
 use Rattle.std.proofs.lemmas.List.Edits.{sets}
-use Rattle.refusals.specs.declared.Answer.{Answer}
-use Rattle.refusals.specs.declared.Answer.TheVariants.{Accepted}
-use Rattle.refusals.specs.Refusals.{first_of}
+use Rattle.refusals.specs.Refusals.{first_of, Answer, accepted}
 use Rattle.reader.specs.declared.Record.{Record}
 use Rattle.reader.specs.declared.Record.TheVariants.{Store}
 use Rattle.reader.specs.File.{word_at, record_at, records_from, records_of}
@@ -117,7 +115,7 @@ pub setup_fits : (words out : List ℕ) → length words ≡ 1024 → length (se
     → (setup_answer words (length out) ≡ Bytes (length (setup_of words))) × (setup_left words out ≡ sets out 0 (setup_of words))
 unfolding setup_answer setup_left
 setup_fits words out l room =
-    let e : first_of (setup_cases words (length out)) ≡ Accepted = rw (l, le-ltb (length out) (length (setup_of words)) room) in
+    let e : first_of (setup_cases words (length out)) ≡ accepted = rw (l, le-ltb (length out) (length (setup_of words)) room) in
     (rw e, rw e)
 
 -- ---- the file read

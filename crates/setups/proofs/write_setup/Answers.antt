@@ -1,11 +1,11 @@
 -- `setups::write_setup` meets its contract: at each answer, the tests that led there pick the case.
+use Rattle.std.specs.Prelude.{Err}
 use native.Mathlib.Omega.{arith}
 use mathlib.Core.Path.{◌≡◌, ap, ◌∙◌}
 use lib.ListN.{length}
 use borrow.Author.Tests.{ne_eqb, lt-ltb, le-ltb}
 use Rattle.refusals.specs.declared.Refusal.TheVariants.{Memory, Room}
-use Rattle.refusals.specs.declared.Answer.TheVariants.{Accepted, Refused}
-use Rattle.refusals.specs.Refusals.{first_of}
+use Rattle.refusals.specs.Refusals.{first_of, accepted}
 use Rattle.setups.specs.declared.Wrote.TheVariants.{Bytes}
 use Rattle.setups.specs.Setup.{setup_of, setup_cases, setup_answer, setup_left}
 use Rattle.setups.proofs.Laws.Setup.{promised}
@@ -17,7 +17,7 @@ returns-then-words-ne-WORDS c =
     let a = c.args in
     let words = a.words.now in
     let out = a.out.now in
-    let e : first_of (setup_cases words (length out)) ≡ Refused Memory = rw (ne_eqb (length words) 1024 c.if-words-ne-WORDS.true) in
+    let e : first_of (setup_cases words (length out)) ≡ Err Memory = rw (ne_eqb (length words) 1024 c.if-words-ne-WORDS.true) in
     let p = promised (setup_of words) out e in
     record { answer = p.0; left = p.1 }
 
@@ -28,7 +28,7 @@ returns-then-out-file_length c =
     let words = a.words.now in
     let out = a.out.now in
     let short = lt-ltb (length out) (length (setup_of words)) (omega (arith, c.if-out-file_length.true, c.file_length.ensures)) in
-    let e : first_of (setup_cases words (length out)) ≡ Refused Room = rw (c.if-words-ne-WORDS.false, short) in
+    let e : first_of (setup_cases words (length out)) ≡ Err Room = rw (c.if-words-ne-WORDS.false, short) in
     let p = promised (setup_of words) out e in
     record { answer = p.0; left = p.1 }
 
@@ -40,7 +40,7 @@ returns c =
     let words = a.words.now in
     let out = a.out.now in
     let enough = le-ltb (length out) (length (setup_of words)) (omega (arith, c.if-out-file_length.false, c.file_length.ensures)) in
-    let e : first_of (setup_cases words (length out)) ≡ Accepted = rw (c.if-words-ne-WORDS.false, enough) in
+    let e : first_of (setup_cases words (length out)) ≡ accepted = rw (c.if-words-ne-WORDS.false, enough) in
     let p = promised (setup_of words) out e in
     let size : c.put_file.result ≡ length (setup_of words) = omega (arith, put.place) in
     record { answer = ap (λ n. Bytes n) size ∙ p.0; left = put.buffer ∙ p.1 }

@@ -4,8 +4,6 @@ use Prim.Native.Nat.{ℕ}
 use mathlib.Core.Path.{◌≡◌, sym, ap, ◌∙◌}
 use mathlib.Core.List.{List}
 use lib.IntN.{ℤ}
-use Rattle.refusals.specs.declared.Answer.{Answer}
-use Rattle.refusals.specs.declared.Answer.TheVariants.{Accepted}
 use Rattle.reading.specs.declared.reading.Reading.{Reading}
 use Rattle.reading.specs.declared.reading.Former.{Former}
 use Rattle.reading.specs.Reading.{reading_of}
@@ -13,9 +11,9 @@ use Rattle.carried.specs.declared.record.Carried.{Carried}
 use Rattle.carried.specs.Former.{former_of}
 use Rattle.carried.specs.Layout.{slot_of, numbers_at, carried_at}
 use Rattle.carried.specs.Layout.Laws.{ranged}
-use Rattle.refusals.specs.Refusals.{first_of}
+use Rattle.refusals.specs.Refusals.{first_of, Answer, accepted, accepted_with}
 use Rattle.judging.specs.Judging.{reading_cases}
-use Rattle.desk.specs.Desk.{Desk, lent, loop_cases, reading_at, sample_answer, admitted_at, admission_by, admission_of, admission_at}
+use Rattle.desk.specs.Desk.{Desk, lent, loop_cases, reading_at, sample_answer, admitted_at, admission_of, admission_at}
 use Rattle.desk.proofs.Laws.Desk.{sound, Known, known_loop_lem, loop_refused, past_loop}
 use Rattle.desk.proofs.admitting.admit.Goals as goal
 
@@ -32,11 +30,11 @@ unfolding admission_at
 returns-in-Refused c =
     let a = c.args in
     let d : Desk = lent a.words.now a.numbers.now in
-    sym (ap (λ (x : Answer). admission_by x (admitted_at d a.number a.raw))
+    sym (ap (λ (x : Answer). accepted_with x (admitted_at d a.number a.raw))
     (loop_refused d a.number a.raw (sym c.fitting.ensures ∙ c.if-not-fitting.false) (sym c.known_loop-known.ensures ∙ c.in-Refused.is)))
 
 -- the loop, with its record in range
-loop : (ns : List ℤ) (k : ℕ) {a : Answer} → a ≡ first_of (loop_cases ns k) → a ≡ Accepted → Known ns k
+loop : (ns : List ℤ) (k : ℕ) {a : Answer} → a ≡ first_of (loop_cases ns k) → a ≡ accepted → Known ns k
 loop ns k e f = known_loop_lem ns k (sym e ∙ f)
 
 pub overflow_cast-number : goal.overflow_cast-number
@@ -75,4 +73,4 @@ returns-in-Accepted c =
     c.admit_read.ensures
     ∙ ap (λ (x : Carried). admission_of x c.read_loop-reading.result raw) carried
     ∙ ap (λ (r : Reading). admission_of (carried_at d.numbers k) r raw) reading
-    ∙ sym (ap (λ (x : Answer). admission_by x (admitted_at d k raw)) answer)
+    ∙ sym (ap (λ (x : Answer). accepted_with x (admitted_at d k raw)) answer)

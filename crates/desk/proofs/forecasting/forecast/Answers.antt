@@ -1,25 +1,24 @@
 -- `desk::forecast` meets its contract, by the admission of a sample with raw PV 0.
+use Rattle.std.specs.Prelude.{Ok}
+use Rattle.refusals.specs.Refusals.{Answer, accepted, accepted_with}
 use native.Mathlib.Omega.{arith}
 use Prim.Native.Nat.{ℕ}
 use mathlib.Core.Path.{◌≡◌, sym, ap, ◌∙◌}
-use Rattle.refusals.specs.declared.Answer.{Answer}
-use Rattle.refusals.specs.declared.Answer.TheVariants.{Accepted}
 use Rattle.reading.proofs.Laws.Reading.{table_inside}
 use Rattle.carried.specs.Former.{former_of}
 use Rattle.carried.specs.Layout.{carried_at}
 use Rattle.desk.specs.declared.admitting.Admitted.{Admitted}
-use Rattle.desk.specs.declared.admitting.Admission.TheVariants.{Sample}
-use Rattle.desk.specs.Desk.{Desk, lent, sample_answer, admitted_at, admission_at, remaining_of, counted_by, forecast_at}
+use Rattle.desk.specs.Desk.{Desk, lent, sample_answer, admitted_at, admission_at, remaining_of, forecast_at}
 use Rattle.desk.proofs.Laws.Desk.{admission_refused, admission_sample, Sampled, sampled}
 use Rattle.desk.proofs.forecasting.forecast.Goals as goal
 
 -- what is known of an admitted sample with raw PV 0
 record Known (d : Desk) (k : ℕ) (a : Admitted) : Type 0 where
-  answer : sample_answer d k 0 ≡ Accepted
+  answer : sample_answer d k 0 ≡ accepted
   is : a ≡ admitted_at d k 0
   facts : Sampled d k 0
 
-known : (d : Desk) (k : ℕ) {a : Admitted} → admission_at d k 0 ≡ Sample a → Known d k a
+known : (d : Desk) (k : ℕ) {a : Admitted} → admission_at d k 0 ≡ Ok a → Known d k a
 known d k e = let p = admission_sample d k 0 e in record { answer = p.0; is = p.1; facts = sampled d k 0 p.0 }
 
 pub overflow_cast-number : goal.overflow_cast-number
@@ -39,7 +38,7 @@ unfolding forecast_at
 returns-in-Refused c =
     let d = lent c.args.words.now c.args.numbers.now in
     let k = c.args.number in
-    sym (ap (λ (x : Answer). counted_by x (remaining_of d k)) (admission_refused d k 0 (sym c.admit-admission.ensures ∙ c.in-Refused.is)))
+    sym (ap (λ (x : Answer). accepted_with x (remaining_of d k)) (admission_refused d k 0 (sym c.admit-admission.ensures ∙ c.in-Refused.is)))
 
 pub returns-in-Sample : goal.returns-in-Sample
 unfolding forecast_at remaining_of

@@ -1,22 +1,22 @@
 -- `desk::sample` meets its contract, by its admission: a refusal, or what is stepped and written back.
+use Rattle.std.specs.Prelude.{Ok}
+use Rattle.refusals.specs.Refusals.{accepted}
 use native.Mathlib.Omega.{arith}
 use Prim.Native.Nat.{ℕ}
 use mathlib.Core.Path.{◌≡◌, sym, ap, ◌∙◌}
-use Rattle.refusals.specs.declared.Answer.TheVariants.{Accepted}
 use Rattle.engine.specs.Steps.{step_of}
 use Rattle.desk.specs.declared.admitting.Admitted.{Admitted}
-use Rattle.desk.specs.declared.admitting.Admission.TheVariants.{Sample}
 use Rattle.desk.specs.Desk.{Desk, lent, sample_answer, admitted_at, admission_at, step_at}
 use Rattle.desk.proofs.Laws.Desk.{admission_refused, admission_sample, Sampled, sampled, shown_refused, shown_done, major_few}
 use Rattle.desk.proofs.sampling.sample.Goals as goal
 
 -- what is known of an admitted sample
 record Known (d : Desk) (k raw : ℕ) (a : Admitted) : Type 0 where
-  answer : sample_answer d k raw ≡ Accepted
+  answer : sample_answer d k raw ≡ accepted
   is : a ≡ admitted_at d k raw
   facts : Sampled d k raw
 
-known : (d : Desk) (k raw : ℕ) {a : Admitted} → admission_at d k raw ≡ Sample a → Known d k raw a
+known : (d : Desk) (k raw : ℕ) {a : Admitted} → admission_at d k raw ≡ Ok a → Known d k raw a
 known d k raw e =
     let p = admission_sample d k raw e in record { answer = p.0; is = p.1; facts = sampled d k raw p.0 }
 

@@ -1,8 +1,7 @@
 -- `desk::fields` meets its contract: by the length, and then by what is known of the loop.
-use Rattle.std.proofs.Common.{◌≡◌, ◌≢◌, ℕ, ℤ, List, length, arith, sym, eq-eqb, ne_eqb}
+use Rattle.std.proofs.Common.{◌≡◌, ◌≢◌, ℕ, ℤ, List, length, arith, sym, eq-eqb, ne_eqb, Err}
 use Rattle.std.proofs.lemmas.List.Edits.{sets}
-use Rattle.refusals.specs.declared.Answer.TheVariants.{Accepted, Refused}
-use Rattle.refusals.specs.Refusals.{first_of}
+use Rattle.refusals.specs.Refusals.{first_of, accepted}
 use Rattle.carried.specs.Layout.{number_count, slot_of, numbers_at}
 use Rattle.desk.specs.Desk.{loop_cases, fields_answer, fields_left}
 use Rattle.desk.proofs.Laws.Desk.{known_loop_lem}
@@ -14,11 +13,11 @@ module _ (ns : List ℤ) (k : ℕ) (before : List ℤ) where
   unfolding fields_answer fields_left
   short h = rw (ne_eqb _ _ h)
 
-  unknown : {why : _} → length ns ≡ number_count → first_of (loop_cases ns k) ≡ Refused why → before ≡ fields_left ns k before
+  unknown : {why : _} → length ns ≡ number_count → first_of (loop_cases ns k) ≡ Err why → before ≡ fields_left ns k before
   unfolding fields_answer fields_left
   unknown h e = rw (eq-eqb _ _ h, e)
 
-  known : length ns ≡ number_count → first_of (loop_cases ns k) ≡ Accepted → sets before 0 (numbers_at ns (slot_of k)) ≡ fields_left ns k before
+  known : length ns ≡ number_count → first_of (loop_cases ns k) ≡ accepted → sets before 0 (numbers_at ns (slot_of k)) ≡ fields_left ns k before
   unfolding fields_answer fields_left
   known h e = rw (eq-eqb _ _ h, e)
 
