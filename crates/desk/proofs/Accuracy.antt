@@ -79,10 +79,10 @@ module _ (d : Desk) (qs : Plains) (tied : TiedAll d.numbers qs) where
   of_store address value (Ok _) e = (λ k above below. tt, rw e tied)
 
   -- an accepted sample, of each loop
-  accepted : (j raw : ℕ) → sample_answer d j raw ≡ accepted → (k : ℕ) → 1 ≤ k → k ≤ 16
+  of_accepted : (j raw : ℕ) → sample_answer d j raw ≡ accepted → (k : ℕ) → 1 ≤ k → k ≤ 16
       → Claim k d (sampled_all qs d j raw k) (sample j raw) × Tied (carried_at (sample_done d j raw).numbers k) (sampled_all qs d j raw k)
   unfolding Claim sampled_all answer_to desk_after sample_left
-  accepted j raw e k above below = go (eqb j k) refl
+  of_accepted j raw e k above below = go (eqb j k) refl
     where
       go : (t : Bool) → eqb j k ≡ t
           → Claim k d (sampled_all qs d j raw k) (sample j raw) × Tied (carried_at (sample_done d j raw).numbers k) (sampled_all qs d j raw k)
@@ -96,7 +96,7 @@ module _ (d : Desk) (qs : Plains) (tied : TiedAll d.numbers qs) where
   of_sample : (j raw : ℕ) (a : Answer) → answer_to d (sample j raw) ≡ a → Kept (sample j raw) a
   unfolding Claim answer_to desk_after sample_left
   of_sample j raw (Err why) e = (λ k above below same ok. absurd (never (sym e ∙ ok)), rw e tied)
-  of_sample j raw (Ok _) e = (λ k above below. (accepted j raw e k above below).0, rw e (λ k above below. (accepted j raw e k above below).1))
+  of_sample j raw (Ok _) e = (λ k above below. (of_accepted j raw e k above below).0, rw e (λ k above below. (of_accepted j raw e k above below).1))
 
   pub one : (call : Call) → Kept call (answer_to d call)
   one reset = of_reset (answer_to d reset) refl

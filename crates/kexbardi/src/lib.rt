@@ -11,8 +11,8 @@ ghost use Rattle.refusals.specs.Refusals.{number_of};
 ghost use Rattle.desk.specs.Desk.{lent, reset_answer, reset_left, store_answer, store_left, sample_answer, sample_left, fields_answer, fields_left};
 ghost use Rattle.kexbardi.specs.Interface.{line_left};
 
-use desk::{FIELDS, Sampled};
-use refusals::number_of;
+use desk::FIELDS;
+use refusals::{ACCEPTED, number_of};
 
 // Q10: the version of functions and layout, major, minor and patch as MMmmpp: its one source (package/make).
 const VERSION: u32 = 50201;
@@ -61,12 +61,11 @@ pub extern "C" fn kexbardi_sample(
     ensures left { lent words.new records.new ≡ sample_left (lent words.old records.old) number raw }
     ensures line { line.new ≡ line_left (lent words.old records.old) number raw line.old }
 {
-    let sampled = desk::sample(words, records, number, raw);
-    match sampled {
-        Sampled::Refused(why) => number_of(Err(why)),
-        Sampled::Shown(l) => {
-            *line = [l.setpoint, l.pv, l.output, l.status];
-            0
+    match desk::sample(words, records, number, raw) {
+        Err(why) => number_of(Err(why)),
+        Ok(shown) => {
+            *line = shown.into();
+            ACCEPTED
         }
     }
 }

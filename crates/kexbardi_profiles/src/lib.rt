@@ -7,8 +7,7 @@ ghost use Rattle.std.specs.Prelude.{◌≡◌};
 ghost use Rattle.desk.specs.Desk.{lent, forecast_at};
 ghost use Rattle.kexbardi_profiles.specs.Told.{told, told_by};
 
-use desk::Foretold;
-use refusals::number_of;
+use refusals::{ACCEPTED, number_of};
 
 // Q11: the samples that remain of a loop's profile. 5, 4, 5, 7, 8, 12, 13, 14 or 11, as a sample with raw PV 0 (9 cannot
 // happen), and then the count stays.
@@ -21,12 +20,11 @@ pub extern "C" fn kexbardi_forecast(
 ) -> u8
     ensures { told result samples.new ≡ told_by (forecast_at (lent words.now records.now) number) samples.old }
 {
-    let answer = desk::forecast(words, records, number);
-    match answer {
-        Foretold::Refused(why) => number_of(Err(why)),
-        Foretold::Samples(n) => {
+    match desk::forecast(words, records, number) {
+        Err(why) => number_of(Err(why)),
+        Ok(n) => {
             *samples = n;
-            0
+            ACCEPTED
         }
     }
 }

@@ -3,9 +3,9 @@ ghost use Rattle.std.specs.Prelude.{◌≡◌};
 ghost use Rattle.desk.specs.Desk.{lent};
 ghost use Rattle.session.specs.Session.{left_for, acted_for, acted_by, count_of};
 
-use desk::Sampled;
+use desk::Line;
 use reader::Record;
-use refusals::number_of;
+use refusals::{Refusal, number_of};
 
 // The number of its answer, 0 where it was carried out, else that of the refusal; and of such a sample what is shown.
 #[derive(Clone, Copy)]
@@ -14,15 +14,15 @@ pub struct Acted {
     pub line: [u16; 4],
 }
 
-fn shown(sampled: Sampled) -> Acted
+fn shown(sampled: Result<Line, Refusal>) -> Acted
     ensures { result ≡ acted_by sampled }
 {
     match sampled {
-        Sampled::Refused(why) => Acted {
+        Err(why) => Acted {
             number: number_of(Err(why)),
             line: [0; 4],
         },
-        Sampled::Shown(l) => Acted {
+        Ok(l) => Acted {
             number: 0,
             line: [l.setpoint, l.pv, l.output, l.status],
         },

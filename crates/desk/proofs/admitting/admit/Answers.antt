@@ -1,5 +1,6 @@
 -- `desk::admit` meets its contract: at each answer, the tests that led there pick the case, one group after the other.
 use native.Mathlib.Omega.{arith}
+use Rattle.std.proofs.Common.{rules, Err}
 use Prim.Native.Nat.{ℕ}
 use mathlib.Core.Path.{◌≡◌, sym, ap, ◌∙◌}
 use mathlib.Core.List.{List}
@@ -22,23 +23,25 @@ unfolding admission_at sample_answer
 returns-then-not-fitting c = simp (sym c.fitting.ensures ∙ c.if-not-fitting.true)
 
 -- memory of the right lengths
-pub known_loop-known-requires : goal.known_loop-known-requires
-known_loop-known-requires c = (sound (lent c.args.words.now c.args.numbers.now) (sym c.fitting.ensures ∙ c.if-not-fitting.false)).numbers
+pub known_loop-requires : goal.known_loop-requires
+known_loop-requires c = (sound (lent c.args.words.now c.args.numbers.now) (sym c.fitting.ensures ∙ c.if-not-fitting.false)).numbers
 
-pub returns-in-Refused : goal.returns-in-Refused
+pub returns-in_err-known_loop : goal.returns-in_err-known_loop
 unfolding admission_at
-returns-in-Refused c =
+returns-in_err-known_loop c =
     let a = c.args in
     let d : Desk = lent a.words.now a.numbers.now in
-    sym (ap (λ (x : Answer). accepted_with x (admitted_at d a.number a.raw))
-    (loop_refused d a.number a.raw (sym c.fitting.ensures ∙ c.if-not-fitting.false) (sym c.known_loop-known.ensures ∙ c.in-Refused.is)))
+    let refused : accepted_with (sample_answer d a.number a.raw) (admitted_at d a.number a.raw) ≡ Err c.in_err-known_loop.field-0.0
+    = ap (λ (x : Answer). accepted_with x (admitted_at d a.number a.raw))
+    (loop_refused d a.number a.raw (sym c.fitting.ensures ∙ c.if-not-fitting.false) (sym c.known_loop.ensures ∙ c.in_err-known_loop.was)) in
+    search rules
 
 -- the loop, with its record in range
 loop : (ns : List ℤ) (k : ℕ) {a : Answer} → a ≡ first_of (loop_cases ns k) → a ≡ accepted → Known ns k
 loop ns k e f = known_loop_lem ns k (sym e ∙ f)
 
-pub overflow_cast-number : goal.overflow_cast-number
-overflow_cast-number c = omega (arith, (loop c.args.numbers.now c.args.number c.known_loop-known.ensures c.in-Accepted.is).below)
+pub overflow_cast-k : goal.overflow_cast-k
+overflow_cast-k c = omega (arith, (loop c.args.numbers.now c.args.number c.known_loop.ensures c.in_ok-known_loop.was).below)
 
 pub numbers_at-requires : goal.numbers_at-requires
 numbers_at-requires c =
@@ -46,7 +49,7 @@ numbers_at-requires c =
       arith,
       c.slot_of.ensures,
       (sound (lent c.args.words.now c.args.numbers.now) (sym c.fitting.ensures ∙ c.if-not-fitting.false)).numbers,
-      (loop c.args.numbers.now c.args.number c.known_loop-known.ensures c.in-Accepted.is).below,
+      (loop c.args.numbers.now c.args.number c.known_loop.ensures c.in_ok-known_loop.was).below,
     )
 
 pub read_loop-reading-requires : goal.read_loop-reading-requires
@@ -54,14 +57,14 @@ read_loop-reading-requires c =
     let ns = c.args.numbers.now in
     let k = c.args.number in
     let size = (sound (lent c.args.words.now ns) (sym c.fitting.ensures ∙ c.if-not-fitting.false)).words in
-    let l = loop ns k c.known_loop-known.ensures c.in-Accepted.is in
+    let l = loop ns k c.known_loop.ensures c.in_ok-known_loop.was in
     let former : c.former_of.result ≡ former_of (carried_at ns k).state = cc in
     (omega (arith, size, l.below), omega (arith, size), rw former (ranged (numbers_at ns (slot_of k)) l.range).profile.segment)
 
 -- what is read is the loop's, and so is what is judged of it
-pub returns-in-Accepted : goal.returns-in-Accepted
+pub returns : goal.returns
 unfolding admission_at
-returns-in-Accepted c =
+returns c =
     let d : Desk = lent c.args.words.now c.args.numbers.now in
     let k = c.args.number in
     let raw = c.args.raw in
@@ -69,7 +72,7 @@ returns-in-Accepted c =
     let former : c.former_of.result ≡ former_of (carried_at d.numbers k).state = cc in
     let reading : c.read_loop-reading.result ≡ reading_at d k = c.read_loop-reading.ensures ∙ ap (λ (f : Former). reading_of d.words k f) former in
     let answer : sample_answer d k raw ≡ first_of (reading_cases (reading_at d k) raw)
-    = past_loop d k raw (sym c.fitting.ensures ∙ c.if-not-fitting.false) (sym c.known_loop-known.ensures ∙ c.in-Accepted.is) in
+    = past_loop d k raw (sym c.fitting.ensures ∙ c.if-not-fitting.false) (sym c.known_loop.ensures ∙ c.in_ok-known_loop.was) in
     c.admit_read.ensures
     ∙ ap (λ (x : Carried). admission_of x c.read_loop-reading.result raw) carried
     ∙ ap (λ (r : Reading). admission_of (carried_at d.numbers k) r raw) reading

@@ -2,6 +2,7 @@
 use Rattle.std.specs.Prelude.{Ok}
 use Rattle.refusals.specs.Refusals.{Answer, accepted, accepted_with}
 use native.Mathlib.Omega.{arith}
+use Rattle.std.proofs.Common.{rules, Err}
 use Prim.Native.Nat.{ℕ}
 use mathlib.Core.Path.{◌≡◌, sym, ap, ◌∙◌}
 use Rattle.reading.proofs.Laws.Reading.{table_inside}
@@ -23,24 +24,25 @@ known d k e = let p = admission_sample d k 0 e in record { answer = p.0; is = p.
 
 pub overflow_cast-number : goal.overflow_cast-number
 overflow_cast-number c =
-    let s = known _ _ (sym c.admit-admission.ensures ∙ c.in-Sample.is) in omega (arith, s.facts.below)
+    let s = known _ _ (sym c.admit.ensures ∙ c.in_ok-a.was) in omega (arith, s.facts.below)
 
 pub remaining-requires : goal.remaining-requires
 remaining-requires c =
     let d = lent c.args.words.now c.args.numbers.now in
     let k = c.args.number in
-    let s = known d k (sym c.admit-admission.ensures ∙ c.in-Sample.is) in
+    let s = known d k (sym c.admit.ensures ∙ c.in_ok-a.was) in
     rw s.is
     (λ on. (let inside = table_inside d.words k (former_of (carried_at d.numbers k).state) on in omega (arith, s.facts.memory.words)), s.facts.carried.profile.segment, omega (arith, s.facts.reading.tuned.sampling))
 
-pub returns-in-Refused : goal.returns-in-Refused
+pub returns-in_err-a : goal.returns-in_err-a
 unfolding forecast_at
-returns-in-Refused c =
+returns-in_err-a c =
     let d = lent c.args.words.now c.args.numbers.now in
     let k = c.args.number in
-    sym (ap (λ (x : Answer). accepted_with x (remaining_of d k)) (admission_refused d k 0 (sym c.admit-admission.ensures ∙ c.in-Refused.is)))
+    let refused : accepted_with (sample_answer d k 0) (remaining_of d k) ≡ Err c.in_err-a.field-0.0
+    = ap (λ (x : Answer). accepted_with x (remaining_of d k)) (admission_refused d k 0 (sym c.admit.ensures ∙ c.in_err-a.was)) in
+    search rules
 
-pub returns-in-Sample : goal.returns-in-Sample
+pub returns : goal.returns
 unfolding forecast_at remaining_of
-returns-in-Sample c =
-    let s = known _ _ (sym c.admit-admission.ensures ∙ c.in-Sample.is) in rw (s.answer, c.remaining.ensures, s.is)
+returns c = let s = known _ _ (sym c.admit.ensures ∙ c.in_ok-a.was) in rw (s.answer, c.remaining.ensures, s.is)

@@ -1,5 +1,5 @@
 -- `desk::fields` meets its contract: by the length, and then by what is known of the loop.
-use Rattle.std.proofs.Common.{◌≡◌, ◌≢◌, ℕ, ℤ, List, length, arith, sym, eq-eqb, ne_eqb, Err}
+use Rattle.std.proofs.Common.{◌≡◌, ◌≢◌, ℕ, ℤ, List, length, arith, rules, sym, ◌∙◌, eq-eqb, ne_eqb, Err}
 use Rattle.std.proofs.lemmas.List.Edits.{sets}
 use Rattle.refusals.specs.Refusals.{first_of, accepted}
 use Rattle.carried.specs.Layout.{number_count, slot_of, numbers_at}
@@ -28,25 +28,27 @@ returns-then-numbers-ne-NUMBERS-clause-answer c = simp (ne_eqb _ _ c.if-numbers-
 pub returns-then-numbers-ne-NUMBERS-clause-left : goal.returns-then-numbers-ne-NUMBERS-clause-left
 returns-then-numbers-ne-NUMBERS-clause-left c = short _ _ _ c.if-numbers-ne-NUMBERS.true
 
-pub returns-in-Refused-clause-answer : goal.returns-in-Refused-clause-answer
+pub returns-in_err-known_loop-clause-answer : goal.returns-in_err-known_loop-clause-answer
 unfolding fields_answer
-returns-in-Refused-clause-answer c = rw (eq-eqb _ _ c.if-numbers-ne-NUMBERS.false) c.in-Refused.ensures
+returns-in_err-known_loop-clause-answer c =
+    let refused = sym c.known_loop.ensures ∙ c.in_err-known_loop.was in rw (eq-eqb _ _ c.if-numbers-ne-NUMBERS.false) (search rules)
 
-pub returns-in-Refused-clause-left : goal.returns-in-Refused-clause-left
-returns-in-Refused-clause-left c = unknown _ _ _ c.if-numbers-ne-NUMBERS.false (sym c.in-Refused.ensures)
+pub returns-in_err-known_loop-clause-left : goal.returns-in_err-known_loop-clause-left
+returns-in_err-known_loop-clause-left c =
+    unknown _ _ _ c.if-numbers-ne-NUMBERS.false (sym c.known_loop.ensures ∙ c.in_err-known_loop.was)
 
 pub overflow_cast-number : goal.overflow_cast-number
-overflow_cast-number c = omega (arith, (known_loop_lem _ _ (sym c.in-Accepted.ensures)).below)
+overflow_cast-number c = omega (arith, (known_loop_lem _ _ (sym c.known_loop.ensures ∙ c.in_ok-known_loop.was)).below)
 
 pub numbers_at-requires : goal.numbers_at-requires
 numbers_at-requires c =
-    omega (arith, c.slot_of.ensures, c.if-numbers-ne-NUMBERS.false, (known_loop_lem _ _ (sym c.in-Accepted.ensures)).below)
+    omega (arith, c.slot_of.ensures, c.if-numbers-ne-NUMBERS.false, (known_loop_lem _ _ (sym c.known_loop.ensures ∙ c.in_ok-known_loop.was)).below)
 
-pub returns-in-Accepted-clause-answer : goal.returns-in-Accepted-clause-answer
+pub returns-clause-answer : goal.returns-clause-answer
 unfolding fields_answer
-returns-in-Accepted-clause-answer c = rw (eq-eqb _ _ c.if-numbers-ne-NUMBERS.false) c.in-Accepted.ensures
+returns-clause-answer c = rw (eq-eqb _ _ c.if-numbers-ne-NUMBERS.false) (sym (sym c.known_loop.ensures ∙ c.in_ok-known_loop.was))
 
-pub returns-in-Accepted-clause-left : goal.returns-in-Accepted-clause-left
-returns-in-Accepted-clause-left c =
+pub returns-clause-left : goal.returns-clause-left
+returns-clause-left c =
     rw (c.put_numbers.ensures, c.numbers_at.ensures, c.slot_of.ensures)
-    (known _ _ _ c.if-numbers-ne-NUMBERS.false (sym c.in-Accepted.ensures))
+    (known _ _ _ c.if-numbers-ne-NUMBERS.false (sym c.known_loop.ensures ∙ c.in_ok-known_loop.was))

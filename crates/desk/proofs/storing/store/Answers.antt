@@ -49,8 +49,8 @@ returns-then-engine_word-clause-left c =
     engine _ _ _ (sym c.fitting.ensures ∙ c.if-not-fitting.false) c.if-address-gt-LAST_ADDRESS.false
     (sym c.engine_word.ensures ∙ c.if-engine_word.true)
 
-pub bounds-words-at : goal.bounds-words-at
-bounds-words-at c =
+pub bounds-words-address : goal.bounds-words-address
+bounds-words-address c =
     omega (arith, (sound _ (sym c.fitting.ensures ∙ c.if-not-fitting.false)).words, c.if-address-gt-LAST_ADDRESS.false)
 
 pub returns-clause-answer : goal.returns-clause-answer
