@@ -21,25 +21,16 @@ pub fn put_text(out: &mut [u8], at: usize, text: &[u8]) -> usize
     requires { at + length text.now ≤ length out.old }
     ensures { Written out.old at text.now out.new result }
 {
-    let mut i = 0;
-    while i < text.len() {
-        out[at + i] = text[i];
-        i += 1;
-    }
-    at + i
+    let end = at + text.len();
+    out[at..end].copy_from_slice(text);
+    end
 }
 
 // How many decimal digits n has.
 pub fn decimal_width(n: u64) -> usize
     ensures { result ≡ length (decimal_of n) }
 {
-    let mut rest = n;
-    let mut width = 1;
-    while 10 <= rest {
-        rest = rest / 10;
-        width += 1;
-    }
-    width
+    n.checked_ilog10().unwrap_or(0) as usize + 1
 }
 
 // Two digits of a number below 100.
@@ -47,9 +38,7 @@ fn put_two(out: &mut [u8], at: usize, n: u32) -> usize
     requires { (n < 100) × (at + 2 ≤ length out.old) }
     ensures { Written out.old at (two_digits n) out.new result }
 {
-    out[at] = (48 + n / 10) as u8;
-    out[at + 1] = (48 + n % 10) as u8;
-    at + 2
+    put_text(out, at, &[(48 + n / 10) as u8, (48 + n % 10) as u8])
 }
 
 // A number below 100 in decimal.
@@ -94,14 +83,11 @@ fn put_long(out: &mut [u8], at: usize, n: u64) -> usize
     ensures { Written out.old at (decimal_of n) out.new result }
 {
     let end = at + decimal_width(n);
-    let mut place = end;
     let mut rest = n;
-    while 10 <= rest {
-        place -= 1;
+    for place in (at..end).rev() {
         out[place] = (48 + rest % 10) as u8;
-        rest = rest / 10;
+        rest /= 10;
     }
-    out[at] = (48 + rest % 10) as u8;
     end
 }
 
@@ -134,9 +120,6 @@ pub fn put_hex(out: &mut [u8], at: usize, n: u16) -> usize
     requires { at + 4 ≤ length out.old }
     ensures { Written out.old at (hex_of n) out.new result }
 {
-    out[at] = hex_digit(n / 4096 % 16);
-    out[at + 1] = hex_digit(n / 256 % 16);
-    out[at + 2] = hex_digit(n / 16 % 16);
-    out[at + 3] = hex_digit(n % 16);
-    at + 4
+    let places = [n / 4096, n / 256, n / 16, n];
+    put_text(out, at, &places.map(|place| hex_digit(place % 16)))
 }

@@ -1,16 +1,14 @@
--- `text::decimal_width` meets its contract: the width and the digits of the rest are together one more than the digits of n, since a
--- turn takes one digit off (`decimal_more`). The rest falls. A u64 has at most 20 digits, so the width fits.
-use mathlib.Core.Path.{ap}
-use native.Mathlib.Omega.{arith}
-use lib.ListN.{length, length-append}
-use Rattle.text.specs.Text.Laws.{decimal_one, decimal_more, decimal_length, decimal_some}
+-- `text::decimal_width` meets its contract: one digit more than the power of ten that is in it (`decimal_width`); 0 has one digit.
+use Prim.Native.Nat.{ℕ, ◌+◌, ◌*◌, ◌^◌, ◌≤◌, ◌<◌}
+use Rattle.std.proofs.Common.{◌≡◌, arith, length, Option, Some, None, ap, IfNone, IfSome}
+use Rattle.std.specs.Option.{unwrap_or}
+use Rattle.text.specs.Text.{decimal_of}
+use Rattle.text.specs.Text.Laws.{decimal_width, decimal_zero}
 use Rattle.text.proofs.decimal_width.Goals as goal
 
-pub overflow_add-width : goal.overflow_add-width
-overflow_add-width c = omega (arith, decimal_length 19 c.args.n (omega arith), decimal_some c.loop-rest.rest)
-
-pub loop-rest-preserved : goal.loop-rest-preserved
-loop-rest-preserved c = omega (arith, simp length-append at (ap length (decimal_more c.loop-rest.rest c.loop-rest-test.true)))
+width : (n : ℕ) (o : Option ℕ) → IfNone o (n ≡ 0) → IfSome o (λ k. 10 ^ k ≤ n) → IfSome o (λ k. n < 10 * 10 ^ k) → unwrap_or o 0 + 1 ≡ length (decimal_of n)
+width n None zero low high = rw zero (omega (arith, ap length decimal_zero))
+width n (Some k) none low high = omega (arith, decimal_width k n low high)
 
 pub returns : goal.returns
-returns c = omega (arith, ap length (decimal_one c.loop-rest.rest c.loop-rest-test.false))
+returns c = let a = c.checked_ilog10.ensures in let w = width c.args.n _ a.none a.power_le a.next_power_gt in rw c.unwrap_or.ensures w

@@ -1,32 +1,39 @@
--- `text::put_long` meets its contract: writing the digits of the rest at `at` would complete the decimal. A turn stores the last of these
--- digits (`decimal_more`, `sets_behind`). `place` is the place behind the digits of the rest, and the rest falls.
-use mathlib.Core.Path.{◌≡◌, ap, ◌∙◌}
-use Prim.Native.Nat.{◌+◌, ◌-◌, ◌/◌}
+-- `text::put_long` meets its contract: a turn stores the last digit of the rest (`decimal_more`, `sets_behind`), the last turn its only one (`decimal_one`).
+use mathlib.Core.Path.{◌≡◌, refl, ap, ◌∙◌}
+use mathlib.Core.Bool.{Bool, true, false}
+use Prim.Native.Nat.{ℕ, ◌+◌, ◌-◌, ◌/◌, ◌≤◌, ◌<◌}
 use native.Mathlib.Omega.{arith}
-use lib.ListN.{length, length-set, length-append}
+use lib.Dec.{ltb}
+use lib.ListN.{length, length-append}
+use borrow.Author.Tests.{ltb-true, ltb-false}
 use Rattle.text.specs.Text.{decimal_of, last_digit}
 use Rattle.text.specs.Text.Laws.{decimal_one, decimal_more, decimal_some, sets_behind}
 use Rattle.text.proofs.put_long.Goals as goal
 
-pub overflow_sub-place : goal.overflow_sub-place
-overflow_sub-place c = omega (arith, decimal_some c.loop-rest.rest)
+-- a number of more than one digit, and of one
+tens : (n : ℕ) → 1 < length (decimal_of n) → 10 ≤ n
+tens n h = go (ltb n 10) refl
+  where
+    go : (b : Bool) → ltb n 10 ≡ b → 10 ≤ n
+    go true e = absurd (omega (arith, ap length (decimal_one n (ltb-true n 10 e))))
+    go false e = ltb-false n 10 e
 
-pub bounds-out-place : goal.bounds-out-place
-bounds-out-place c = omega (arith, decimal_some c.loop-rest.rest)
+ones : (n : ℕ) → length (decimal_of n) ≡ 1 → n < 10
+ones n h = go (ltb n 10) refl
+  where
+    go : (b : Bool) → ltb n 10 ≡ b → n < 10
+    go true e = ltb-true n 10 e
+    go false e = absurd (omega (arith, simp length-append at (ap length (decimal_more n (ltb-false n 10 e))), decimal_some (n / 10)))
 
-pub loop-rest-preserved : goal.loop-rest-preserved
-loop-rest-preserved c =
-    let l = c.loop-rest in
-    let a = c.args in
-    let e = decimal_more l.rest c.loop-rest-test.true in
-    let p : l.place - 1 ≡ a.at + length (decimal_of (l.rest / 10)) = omega (arith, simp length-append at (ap length e)) in
-    let s = sets_behind l.out a.at (decimal_of (l.rest / 10)) (last_digit l.rest) ∙ (rw e at l.invariant.3) in
-    (simp length-set (omega arith), omega arith, p, rw p s)
-
-pub bounds-out-at : goal.bounds-out-at
-bounds-out-at c = omega (arith, decimal_some c.args.n)
-
-pub returns : goal.returns
-returns c =
-    let l = c.loop-rest in
-    record { buffer = rw (decimal_one l.rest c.loop-rest-test.false) at l.invariant.3; place = omega arith }
+pub loop-place-preserved : goal.loop-place-preserved
+loop-place-preserved c =
+    let l = c.loop-place in
+    let at = c.args.at in
+    let behind = l.invariant.1 c.loop-place-test.true in (
+      omega arith,
+      λ h.
+          let e = decimal_more l.rest (tens l.rest (omega (arith, behind.0))) in
+          let p : l.place - 1 ≡ at + length (decimal_of (l.rest / 10)) = omega (arith, behind.0, simp length-append at (ap length e)) in
+          (p, rw p (sets_behind l.out at (decimal_of (l.rest / 10)) (last_digit l.rest) ∙ (rw e at behind.1))),
+      λ h. let e = decimal_one l.rest (ones l.rest (omega (arith, behind.0))) in rw h (rw e at behind.1),
+    )

@@ -112,6 +112,26 @@ decimal_length k n = digits_all (λ n t. (k : ℕ) → n < 10 ^ suc k → length
     more n t h ih zero l = absurd (omega arith)
     more n t h ih (suc k) l = simp length-append (omega (arith, ih k (omega (arith, pow-suc 10 (suc k)))))
 
+ten_some : (k : ℕ) → 0 < 10 ^ k
+ten_some zero = omega arith
+ten_some (suc k) = omega (arith, pow-suc 10 k, ten_some k)
+
+-- one of 10 ^ k or more has more than k
+pub decimal_longer : (k n : ℕ) → 10 ^ k ≤ n → k < length (decimal_of n)
+decimal_longer k n = digits_all (λ n t. (k : ℕ) → 10 ^ k ≤ n → k < length t) one more n k
+  where
+    one : (n : ℕ) → n < 10 → (k : ℕ) → 10 ^ k ≤ n → k < 1
+    one n h zero l = omega arith
+    one n h (suc k) l = absurd (omega (arith, pow-suc 10 k, ten_some k))
+
+    more : (n : ℕ) (t : List ℕ) → 10 ≤ n → ((k : ℕ) → 10 ^ k ≤ n / 10 → k < length t) → (k : ℕ) → 10 ^ k ≤ n → k < length (t ++ (last_digit n ∷ []))
+    more n t h ih zero l = simp length-append (omega arith)
+    more n t h ih (suc k) l = simp length-append (omega (arith, ih k (omega (arith, pow-suc 10 k))))
+
+-- so a number from 10 ^ k on, below the next power, has one digit more than k
+pub decimal_width : (k n : ℕ) → 10 ^ k ≤ n → n < 10 * 10 ^ k → length (decimal_of n) ≡ k + 1
+decimal_width k n low high = omega (arith, decimal_longer k n low, decimal_length k n (omega (arith, pow-suc 10 k)))
+
 -- what is read of two texts in a row
 read_append : (value : ℕ) (a b : List ℕ) → read_from value (a ++ b) ≡ read_from (read_from value a) b
 unfolding read_from
