@@ -2,7 +2,7 @@
 ghost use Rattle.std.specs.Prelude.{◌≡◌, ◌≤◌};
 ghost use Rattle.profile.specs.Flags.{is_soak, deviates, flag_of, flags_of};
 
-use crate::state::Profile;
+use crate::state::{Moved, Profile};
 
 const SEGMENT: u16 = 256;
 
@@ -12,14 +12,8 @@ const DEVIATION: u16 = 32;
 
 const COMPLETE: u16 = 16;
 
-// G1: the even segments are soaks.
-fn is_soak(segment: u8) -> bool
-    ensures { result ≡ is_soak segment }
-{
-    (segment != 0) & (segment % 2 == 0)
-}
-
 // G10: the PV is further from the setpoint than a deviation that is not 0.
+#[tactic(auto, unfolding(crate::specs::Flags::deviates, numbers::specs::Distances::apart))]
 fn deviates_by(deviation: u16, setpoint: u16, pv: u16) -> bool
     ensures { result ≡ deviates deviation setpoint pv }
 {
@@ -34,14 +28,27 @@ fn flag(on: bool, bit: u16) -> u16
     if on { bit } else { 0 }
 }
 
-// G10: word 27. `deviation` is that of the pair in which the profile stands.
-pub(crate) fn flags_word(p: Profile, deviation: u16, setpoint: u16, pv: u16) -> u16
-    requires { p.segment ≤ 16 }
-    ensures { result ≡ flags_of p deviation setpoint pv }
-{
-    let far = is_soak(p.segment) & deviates_by(deviation, setpoint, pv);
-    SEGMENT * p.segment as u16
-        + flag(p.hold, HELD)
-        + flag(far, DEVIATION)
-        + flag(p.complete, COMPLETE)
+impl Profile {
+    // G1: the even segments are soaks.
+    fn is_soak(self) -> bool
+        ensures { result ≡ is_soak self.segment }
+    {
+        (self.segment != 0) & (self.segment % 2 == 0)
+    }
+}
+
+impl Moved {
+    // G10: word 27. `deviation` is that of the pair in which the profile stands.
+    #[tactic(auto, unfolding(crate::specs::Flags::flags_of))]
+    pub(crate) fn flags_word(self, deviation: u16, pv: u16) -> u16
+        requires { self.profile.segment ≤ 16 }
+        ensures { result ≡ flags_of self.profile deviation self.setpoint pv }
+    {
+        let p = self.profile;
+        let far = p.is_soak() & deviates_by(deviation, self.setpoint, pv);
+        SEGMENT * u16::from(p.segment)
+            + flag(p.hold, HELD)
+            + flag(far, DEVIATION)
+            + flag(p.complete, COMPLETE)
+    }
 }

@@ -1,35 +1,26 @@
 // The forecast (G12): how many samples remain of a profile. Each ramp hands over to its soak and each soak
 // to the next ramp; a segment's samples are counted by a division.
 ghost use Rattle.std.specs.Prelude.{◌≡◌, ◌*◌, ◌≤◌, ◌<◌, length};
-ghost use Rattle.numbers.specs.Distances.{apart};
 ghost use Rattle.profile.specs.Forecasts.{count_of, ramps_from, soaks_from, forecast_of};
 
-use crate::moves::{PARTS, SEGMENTS, TENTH_OF_A_MINUTE};
+use crate::moves::{SEGMENTS, TENTH_OF_A_MINUTE, parts};
 use crate::state::Profile;
 use reading::read_pair;
 
 const SEGMENT_COUNT: usize = SEGMENTS as usize;
 
-// |a − b|.
-fn way(a: u32, b: u32) -> u32
-    ensures { result ≡ apart a b }
-{
-    if a < b { b - a } else { a - b }
-}
-
 // The samples that a way takes by steps: at least one, and as many as cover it.
+#[tactic(auto, unfolding(crate::specs::Forecasts::count_of))]
 fn count(way: u32, step: u32) -> u64
     requires { 0 < step }
     ensures { result ≡ count_of way step }
 {
-    if way == 0 {
-        return 1;
-    }
-    1 + ((way - 1) / step) as u64
+    1 + u64::from(way.saturating_sub(1) / step)
 }
 
 // The samples of the `left` last segments, of which a ramp is the first and begins at `at`.
 #[cycle(ramps_soaks)]
+#[tactic(auto, using(crate::proofs::Laws::Forecasts::no_ramps, crate::proofs::Laws::Forecasts::ramp_stops, crate::proofs::Laws::Forecasts::ramp_then, crate::proofs::Laws::Forecasts::count_high))]
 fn ramps(table: &[u16], period: u16, at: u32, left: usize) -> u64
     requires { (length table.now ≡ 32) × (left ≤ 16) × (0 < period) }
     ensures equal { result ≡ ramps_from left table.now period at }
@@ -42,12 +33,14 @@ fn ramps(table: &[u16], period: u16, at: u32, left: usize) -> u64
     if pair.slope == 0 {
         return 1;
     }
-    let to = PARTS * pair.end as u32;
-    count(way(at, to), pair.slope as u32 * period as u32) + soaks(table, period, to, 0, left - 1)
+    let to = parts(pair.end, 0);
+    count(at.abs_diff(to), u32::from(pair.slope) * u32::from(period))
+        + soaks(table, period, to, 0, left - 1)
 }
 
 // The same, of which a soak is the first and has lasted `time`; the setpoint stands at `at`.
 #[cycle(ramps_soaks)]
+#[tactic(auto, using(crate::proofs::Laws::Forecasts::no_soaks, crate::proofs::Laws::Forecasts::no_ramps, crate::proofs::Laws::Forecasts::soak_then, crate::proofs::Laws::Forecasts::count_high))]
 fn soaks(table: &[u16], period: u16, at: u32, time: u32, left: usize) -> u64
     requires { (length table.now ≡ 32) × (left ≤ 16) × (0 < period) }
     ensures equal { result ≡ soaks_from left table.now period at time }
@@ -57,9 +50,8 @@ fn soaks(table: &[u16], period: u16, at: u32, time: u32, left: usize) -> u64
         return 0;
     }
     let pair = read_pair(table, (SEGMENT_COUNT - left) / 2);
-    let whole = TENTH_OF_A_MINUTE * pair.duration as u32;
-    let rest = if time < whole { whole - time } else { 0 };
-    let own = count(rest, period as u32);
+    let whole = TENTH_OF_A_MINUTE * u32::from(pair.duration);
+    let own = count(whole.saturating_sub(time), u32::from(period));
     if left == 1 {
         return own;
     }
@@ -67,6 +59,7 @@ fn soaks(table: &[u16], period: u16, at: u32, time: u32, left: usize) -> u64
 }
 
 // G12: the samples that remain of a profile, with the one that completes it; 0 where none runs.
+#[tactic(auto, unfolding(crate::specs::Forecasts::forecast_of))]
 pub fn forecast(table: &[u16], period: u16, p: Profile, setpoint: u16) -> u64
     requires { (length table.now ≡ 32) × (p.segment ≤ 16) × (0 < period) }
     ensures { result ≡ forecast_of table.now period p setpoint }
@@ -74,8 +67,8 @@ pub fn forecast(table: &[u16], period: u16, p: Profile, setpoint: u16) -> u64
     if p.segment == 0 {
         return 0;
     }
-    let at = PARTS * setpoint as u32 + p.fraction as u32;
-    let left = SEGMENT_COUNT + 1 - p.segment as usize;
+    let at = parts(setpoint, p.fraction);
+    let left = SEGMENT_COUNT + 1 - usize::from(p.segment);
     if p.segment % 2 == 1 {
         ramps(table, period, at, left)
     } else {

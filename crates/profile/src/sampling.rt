@@ -3,12 +3,11 @@ ghost use Rattle.std.specs.Prelude.{◌≡◌, ◌≤◌};
 ghost use Rattle.profile.specs.Premises.{Within};
 ghost use Rattle.profile.specs.Samples.{sampled_by};
 
-use crate::flags::flags_word;
-use crate::moves::{command_of, ended, worked};
-use crate::state::Profile;
+use crate::moves::Command;
+use crate::state::{Moved, Profile};
 use reading::Program;
 
-#[derive(Clone, Copy)]
+#[derive(Clone, Copy, Debug, PartialEq, Eq)]
 pub struct Profiled {
     pub profile: Profile,
     pub setpoint: u16,
@@ -16,6 +15,7 @@ pub struct Profiled {
 }
 
 // `flags` is word 27 as it stood, `setpoint` that of A4. Without a program word 27 is 0 (G4).
+#[tactic(auto, unfolding(crate::specs::Samples::sampled_by, crate::specs::Moves::advanced_by, crate::specs::Flags::flags_of))]
 pub fn sample(
     program: Program,
     flags: u16,
@@ -29,18 +29,19 @@ pub fn sample(
 {
     if program.on {
         let pair = program.pair;
-        let command = command_of(flags);
-        let moved = worked(command, pair, period, p, setpoint);
-        let profile = moved.profile;
-        let next = moved.setpoint;
+        let now = Moved {
+            profile: p,
+            setpoint,
+        };
+        let moved = now.worked(Command::of(flags), pair, period);
         Profiled {
-            profile,
-            setpoint: next,
-            flags: flags_word(profile, pair.deviation, next, pv),
+            profile: moved.profile,
+            setpoint: moved.setpoint,
+            flags: moved.flags_word(pair.deviation, pv),
         }
     } else {
         Profiled {
-            profile: ended(p),
+            profile: p.ended(),
             setpoint,
             flags: 0,
         }

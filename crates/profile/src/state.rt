@@ -1,5 +1,5 @@
 // Where a loop stands in its profile (H1): the five numbers that it carries, and they with the setpoint.
-#[derive(Clone, Copy)]
+#[derive(Clone, Copy, Debug, PartialEq, Eq)]
 pub struct Profile {
     pub segment: u8, // 0 where none runs; odd a ramp, even a soak
     pub hold: bool,
@@ -8,7 +8,7 @@ pub struct Profile {
     pub time: u32, // of the soak so far, hundredths of a second
 }
 
-#[derive(Clone, Copy)]
+#[derive(Clone, Copy, Debug, PartialEq, Eq)]
 pub struct Moved {
     pub profile: Profile,
     pub setpoint: u16,
