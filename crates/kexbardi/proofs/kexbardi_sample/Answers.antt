@@ -30,15 +30,15 @@ shown_line d k raw line {l} e =
     let answer : sample_answer d k raw ≡ accepted = sym (answer_shown_lem d k raw) ∙ ap answer_shown e in
     (rw answer, rw answer (sym (ap (λ (m : Line). m.setpoint ∷ m.pv ∷ m.output ∷ m.status ∷ []) (line_shown d k raw e))))
 
-pub returns-in-Refused-clause-number : goal.returns-in-Refused-clause-number
-returns-in-Refused-clause-number c =
-    c.number_of.ensures ∙ sym (refused_line _ _ _ c.args.line.now (sym c.sample-sampled.ensures.sampled ∙ c.in-Refused.is)).0
+pub returns-in-Err-clause-number : goal.returns-in-Err-clause-number
+returns-in-Err-clause-number c =
+    c.number_of.ensures ∙ sym (refused_line _ _ _ c.args.line.now (sym c.sample.ensures.sampled ∙ c.in-Err.is)).0
 
-pub returns-in-Refused-clause-line : goal.returns-in-Refused-clause-line
-returns-in-Refused-clause-line c = sym (refused_line _ _ _ _ (sym c.sample-sampled.ensures.sampled ∙ c.in-Refused.is)).1
+pub returns-in-Err-clause-line : goal.returns-in-Err-clause-line
+returns-in-Err-clause-line c = sym (refused_line _ _ _ _ (sym c.sample.ensures.sampled ∙ c.in-Err.is)).1
 
-pub returns-in-Shown-clause-number : goal.returns-in-Shown-clause-number
-returns-in-Shown-clause-number c = sym (shown_line _ _ _ c.args.line.now (sym c.sample-sampled.ensures.sampled ∙ c.in-Shown.is)).0
+pub returns-in-Ok-clause-number : goal.returns-in-Ok-clause-number
+returns-in-Ok-clause-number c = sym (shown_line _ _ _ c.args.line.now (sym c.sample.ensures.sampled ∙ c.in-Ok.is)).0
 
-pub returns-in-Shown-clause-line : goal.returns-in-Shown-clause-line
-returns-in-Shown-clause-line c = sym (shown_line _ _ _ _ (sym c.sample-sampled.ensures.sampled ∙ c.in-Shown.is)).1
+pub returns-in-Ok-clause-line : goal.returns-in-Ok-clause-line
+returns-in-Ok-clause-line c = c.into.ensures ∙ sym (shown_line _ _ _ _ (sym c.sample.ensures.sampled ∙ c.in-Ok.is)).1
