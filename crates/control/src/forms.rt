@@ -14,20 +14,15 @@ pub struct Drive {
 
 // A8 outside the limits: with freeze the bias stays, else it is taken back from the output.
 // `base` is P − D, `limit` the limit that was passed.
+#[tactic(auto, unfolding(crate::specs::Forms::outside_of))]
 fn outside(freeze: bool, drive: Drive, base: i64, limit: i64) -> Drive
     requires { (nat_abs base ≤ 2 ^ 60) × (nat_abs limit ≤ 2 ^ 34) }
     ensures { result ≡ outside_of freeze drive base limit }
 {
-    if freeze {
-        Drive {
-            bias: drive.bias,
-            output: limit,
-        }
-    } else {
-        Drive {
-            bias: limit - base,
-            output: limit,
-        }
+    let bias = if freeze { drive.bias } else { limit - base };
+    Drive {
+        bias,
+        output: limit,
     }
 }
 
@@ -57,8 +52,5 @@ pub fn velocity(drive: Drive, terms: Terms, low: i64, high: i64) -> Drive
     ensures { result ≡ velocity_of drive terms low high }
 {
     let output = numbers::clamp(drive.output + terms.p + terms.i - terms.d, low, high);
-    Drive {
-        bias: drive.bias,
-        output,
-    }
+    Drive { output, ..drive }
 }

@@ -39,14 +39,16 @@ fn term(k: u64, e: i64, d: u64) -> i64
 }
 
 // P. Settings are in hundredths here and below.
+#[tactic(auto, unfolding(crate::specs::Terms::exact_p))]
 fn proportional(gain: u16, e: i64) -> i64
     requires { (gain ≤ 9999) × (nat_abs e ≤ 131070) }
     ensures { result ≡ round_to 262144 (exact_p gain e) }
 {
-    term(gain as u64, e, 100)
+    term(u64::from(gain), e, 100)
 }
 
 // I: none at reset 9999. `minutes` says that the reset is in minutes.
+#[tactic(auto, using(crate::specs::Terms::Laws::no_term), unfolding(crate::specs::Terms::exact_i))]
 fn integral(c: u16, period: u16, reset: u16, minutes: bool, e: i64) -> i64
     requires { (c ≤ 9999) × ((period ≤ 9999) × ((0 < reset) × (nat_abs e ≤ 131070))) }
     ensures { result ≡ round_to 262144 (exact_i c period reset minutes e) }
@@ -54,15 +56,16 @@ fn integral(c: u16, period: u16, reset: u16, minutes: bool, e: i64) -> i64
     if reset == 9999 {
         return 0;
     }
-    let k = c as u64 * period as u64;
+    let k = u64::from(c) * u64::from(period);
     if minutes {
-        term(k, e, 6000 * reset as u64)
+        term(k, e, 6000 * u64::from(reset))
     } else {
-        term(k, e, 100 * reset as u64)
+        term(k, e, 100 * u64::from(reset))
     }
 }
 
 // D, of the PV's change: none at rate 0.
+#[tactic(auto, using(crate::specs::Terms::Laws::no_rate), unfolding(crate::specs::Terms::exact_d))]
 fn derivative(c: u16, rate: u16, period: u16, change: i64) -> i64
     requires { (c ≤ 9999) × ((rate ≤ 9999) × ((0 < period) × (nat_abs change ≤ 131070))) }
     ensures { result ≡ round_to 262144 (exact_d c rate period change) }
@@ -70,10 +73,15 @@ fn derivative(c: u16, rate: u16, period: u16, change: i64) -> i64
     if rate == 0 {
         return 0;
     }
-    term(c as u64 * rate as u64, change, 100 * period as u64)
+    term(
+        u64::from(c) * u64::from(rate),
+        change,
+        100 * u64::from(period),
+    )
 }
 
 // The three of a loop that acts directly.
+#[tactic(auto, unfolding(crate::specs::Terms::terms_of, crate::specs::Terms::exact_terms))]
 fn direct_terms(tuning: Tuning, minutes: bool, inputs: Inputs) -> Terms
     requires { Tuned tuning × Bounded inputs }
     ensures { result ≡ terms_of tuning minutes false inputs }
@@ -92,9 +100,9 @@ fn directed(reverse: bool, terms: Terms) -> Terms
 {
     if reverse {
         Terms {
-            p: 0 - terms.p,
-            i: 0 - terms.i,
-            d: 0 - terms.d,
+            p: -terms.p,
+            i: -terms.i,
+            d: -terms.d,
         }
     } else {
         terms
@@ -102,6 +110,7 @@ fn directed(reverse: bool, terms: Terms) -> Terms
 }
 
 // All three, in the loop's direction.
+#[tactic(auto, using(crate::specs::Terms::Laws::terms_high, crate::specs::Terms::Laws::terms_directed))]
 pub fn terms_of(tuning: Tuning, minutes: bool, reverse: bool, inputs: Inputs) -> Terms
     requires { Tuned tuning × Bounded inputs }
     ensures { result ≡ terms_of tuning minutes reverse inputs }

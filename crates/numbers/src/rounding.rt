@@ -2,12 +2,13 @@
 ghost use Rattle.std.specs.Prelude.{◌≡◌, ◌*◌, ◌^◌, ◌<◌, pos, nat_abs, ◌*ℤ◌, ◌≤ℤ◌};
 ghost use Rattle.numbers.specs.Rounding.{half_up, half_away, units_of, nearest_count};
 
-use crate::signed::{magnitude, to_signed, to_unsigned, with_sign};
+use crate::signed::with_sign;
 
 // Units of a count.
 pub const UNITS: u64 = 262144;
 
 // A10: n / d to the nearest, a half up.
+#[tactic(auto, unfolding(crate::specs::Rounding::half_up))]
 pub fn half_up(n: u64, d: u64) -> u64
     requires { (n < 2 ^ 62) × ((0 < d) × (d < 2 ^ 62)) }
     ensures { result ≡ half_up n d }
@@ -16,11 +17,12 @@ pub fn half_up(n: u64, d: u64) -> u64
 }
 
 // A7: z / d to the nearest, a half away from zero.
+#[tactic(auto, using(crate::proofs::Laws::Rounding::half_up_self), unfolding(crate::specs::Rounding::half_away))]
 pub fn half_away(z: i64, d: u64) -> i64
     requires { (nat_abs z < 2 ^ 62) × ((0 < d) × (d < 2 ^ 62)) }
     ensures { result ≡ half_away z d }
 {
-    with_sign(z, half_up(magnitude(z), d))
+    with_sign(z, half_up(z.unsigned_abs(), d))
 }
 
 // A7: k × z / d to the nearest, a half away from zero.
@@ -28,20 +30,21 @@ pub fn scaled(k: u64, z: i64, d: u64) -> i64
     requires { (k < 2 ^ 62) × ((k * nat_abs z < 2 ^ 62) × ((0 < d) × (d < 2 ^ 62))) }
     ensures { result ≡ half_away (pos k *ℤ z) d }
 {
-    half_away(to_signed(k) * z, d)
+    half_away(k as i64 * z, d)
 }
 
 // A count in units.
 pub fn units(count: u16) -> i64
     ensures { result ≡ pos (units_of count) }
 {
-    to_signed((count as u64) * UNITS)
+    (u64::from(count) * UNITS) as i64
 }
 
 // A10: units in the nearest count, a half up.
+#[tactic(auto, using(crate::proofs::Laws::Rounding::half_up_high))]
 pub fn nearest_count(x: i64) -> u16
     requires { (pos 0 ≤ℤ x) × (x ≤ℤ pos (units_of 65535)) }
     ensures { result ≡ nearest_count (nat_abs x) }
 {
-    half_up(to_unsigned(x), UNITS) as u16
+    half_up(x as u64, UNITS) as u16
 }

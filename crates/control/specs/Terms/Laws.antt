@@ -8,7 +8,7 @@ use Rattle.numbers.specs.Whole.{abs_neg, abs_sub, abs_scale, scale_scale}
 use Rattle.numbers.specs.Limits.Laws.{by_test}
 use Rattle.numbers.specs.Rounding.{half_away}
 use Rattle.numbers.proofs.Laws.Rounding.{half_up_zero, half_up_high, half_away_abs}
-use Rattle.numbers.specs.Fractions.{Fraction, over, round_to}
+use Rattle.numbers.specs.Fractions.{Fraction, over, whole, round_to}
 use Rattle.numbers.proofs.Laws.Fractions.{round_over, round_neg}
 use Rattle.reading.specs.declared.settings.Tuning.{Tuning}
 use Rattle.control.specs.declared.terms.Inputs.{Inputs}
@@ -30,6 +30,11 @@ no_rate c t z p =
     ∙ ap (λ (n : ℕ). half_away (pos (n * 262144) *ℤ z) (100 * t)) (mul-zero c)
     ∙ ap (λ (x : ℤ). half_away x (100 * t)) (zero-*ℤ z)
     ∙ ap pos (half_up_zero (100 * t))
+
+-- a term of 0, as at a reset of 9999
+pub no_term : round_to 262144 (whole (pos 0)) ≡ pos 0
+unfolding half_away
+no_term = term_is 0 (pos 0) {d = 1} (lit< tt) ∙ ap pos (half_up_zero 1)
 
 -- a term's magnitude, by a bound on its numerator
 pub term_high : (k : ℕ) (e : ℤ) {d : ℕ} → 0 < d → (m : ℕ) → k * 262144 * nat_abs e ≤ m * d

@@ -1,8 +1,0 @@
--- `numbers::half_up` meets its contract: the code is the definition's formula, and nothing in it wraps.
-use mathlib.Core.Path.{refl}
-use Rattle.numbers.specs.Rounding.{half_up}
-use Rattle.numbers.proofs.rounding.half_up.Goals as goal
-
-pub returns : goal.returns
-unfolding half_up
-returns c = refl
