@@ -1,42 +1,43 @@
-// The drill file (L1 to L8): the record that stands at a position, and the position behind it.
+// The drill file (L1 to L8): the record that stands at a position, the position behind it, and a file's records in order.
 //
 // A file is any list of bytes. Each record is its length, the number of bytes behind it, its kind
 // and its body. A reader starts at position 0 and goes on at `next` until the end of the file.
 #![tactic(auto)]
 
-ghost use Rattle.std.specs.Prelude.{◌≡◌, ◌+◌, ◌*◌, ◌-◌, ◌≤◌, length};
-ghost use Rattle.reader.specs.File.{word_at, store_at, sample_at, whole_at, record_at};
+ghost use Rattle.std.specs.Prelude.{◌≡◌, ◌+◌, ◌-◌, ◌≤◌, length};
+ghost use Rattle.std.specs.Iterator.{YieldsFirst, item_count};
+ghost use Rattle.reader.specs.File.{word_at, store_at, sample_at, whole_at, record_at, records_of, records_left};
 
 use refusals::Refusal;
 
-// A store of an address and a value, a sample of a loop and a raw PV, or a refusal.
-#[derive(Clone, Copy)]
+const STORE: u16 = 1; // the kind of a store
+
+const SAMPLE: u16 = 2; // the kind of a sample
+
+const STORE_LENGTH: usize = 6; // L3
+
+const SAMPLE_LENGTH: usize = 5; // L4
+
+// A store of an address and a value, or a sample of a loop and a raw PV.
+#[derive(Clone, Copy, Debug, PartialEq, Eq)]
 pub enum Record {
     Store(u16, u16),
     Sample(u8, u16),
-    Refused(Refusal),
 }
 
-// A record, and the position behind it.
+// A record, or why it is refused, and the position behind it.
 #[derive(Clone, Copy)]
 pub struct Step {
-    pub item: Record,
+    pub item: Result<Record, Refusal>,
     pub next: usize,
 }
 
-// L1: two bytes as a word, the low one first.
-fn little_endian(low: u8, high: u8) -> u16
-    ensures { result ≡ low + 256 * high }
-{
-    low as u16 + 256 * (high as u16)
-}
-
-// The word at a position.
+// L1: the word at a position, the low byte first.
 fn word(file: &[u8], at: usize) -> u16
     requires { at + 2 ≤ length file.now }
     ensures { result ≡ word_at file.now at }
 {
-    little_endian(file[at], file[at + 1])
+    u16::from_le_bytes([file[at], file[at + 1]])
 }
 
 // L3: a store has address and value. The position is the kind's.
@@ -56,56 +57,72 @@ fn sample(file: &[u8], at: usize) -> Record
 }
 
 // L6, L7: the record of length n whose bytes are all there, by its kind.
-fn whole(file: &[u8], at: usize, n: usize) -> Record
+fn whole(file: &[u8], at: usize, n: usize) -> Result<Record, Refusal>
     requires { at + n ≤ length file.now }
     ensures { result ≡ whole_at file.now at n }
 {
     if n < 2 {
-        return Record::Refused(Refusal::Kind);
+        return Err(Refusal::Kind);
     }
     match word(file, at) {
-        1 => {
-            if n == 6 {
-                store(file, at)
-            } else {
-                Record::Refused(Refusal::Length)
-            }
-        }
-        2 => {
-            if n == 5 {
-                sample(file, at)
-            } else {
-                Record::Refused(Refusal::Length)
-            }
-        }
-        _ => Record::Refused(Refusal::Kind),
+        STORE if n == STORE_LENGTH => Ok(store(file, at)),
+        SAMPLE if n == SAMPLE_LENGTH => Ok(sample(file, at)),
+        STORE | SAMPLE => Err(Refusal::Length),
+        _ => Err(Refusal::Kind),
     }
-}
-
-// How many bytes stand from a position on.
-fn bytes_left(file: &[u8], at: usize) -> usize
-    ensures { result ≡ length file.now - at }
-{
-    if at < file.len() { file.len() - at } else { 0 }
 }
 
 // L5, L8: the record at a position. A cut one ends the file.
+#[tactic(auto, unfolding(crate::specs::File::record_at))]
 pub fn read_record(file: &[u8], at: usize) -> Step
     ensures { result ≡ record_at file.now at }
 {
-    let bytes = bytes_left(file, at);
-    if 2 <= bytes {
-        let n = word(file, at) as usize;
-        let behind = at + 2;
-        if n <= bytes - 2 {
-            return Step {
-                item: whole(file, behind, n),
-                next: behind + n,
-            };
-        }
-    }
-    Step {
-        item: Record::Refused(Refusal::Cut),
+    let cut = Step {
+        item: Err(Refusal::Cut),
         next: file.len(),
+    };
+    let bytes = file.len().saturating_sub(at);
+    if bytes < 2 {
+        return cut;
     }
+    let n = word(file, at) as usize;
+    if bytes - 2 < n {
+        return cut;
+    }
+    let kind = at + 2;
+    Step {
+        item: whole(file, kind, n),
+        next: kind + n,
+    }
+}
+
+// L8: the records of a file in order.
+#[derive(Drop)]
+pub struct Records<'a> {
+    file: &'a [u8],
+    at: usize,
+}
+
+impl<'a> Iterator for Records<'a> {
+    type Item = Result<Record, Refusal>;
+
+    ghost next_gives = { YieldsFirst records_left };
+
+    ghost remaining = { item_count records_left };
+
+    #[tactic(auto, using(crate::proofs::Laws::File::records_step, crate::proofs::Laws::File::records_end))]
+    fn next(&mut self) -> Option<Result<Record, Refusal>> {
+        if self.file.len() <= self.at {
+            return None;
+        }
+        let Step { item, next } = read_record(self.file, self.at);
+        self.at = next;
+        Some(item)
+    }
+}
+
+pub fn read_records(file: &[u8]) -> Records<'_>
+    ensures { records_left result ≡ records_of file.now }
+{
+    Records { file, at: 0 }
 }

@@ -1,22 +1,21 @@
 -- The laws of a file's records that proofs here and above cite in place of the definitions.
-use Rattle.std.specs.Prelude.{ℕ, zero, suc, ◌+◌, ◌*◌, ◌-◌, ◌≤◌, ◌<◌, ◌≡◌, refl, Bool, true, false, cond, length, take, drop, ltb, eqb}
+use Rattle.std.specs.Prelude.{ℕ, zero, suc, ◌+◌, ◌*◌, ◌-◌, ◌≤◌, ◌<◌, ◌≡◌, refl, Bool, true, false, cond, length, take, drop, ltb, eqb, Ok, Err}
 use Rattle.std.proofs.Common.{sym, ◌∙◌, arith, drop_of_length-le, take-append-drop, length-take-le, lt-ltb, le-ltb, ltb-true, ltb-false}
 use mathlib.Core.List.{List, [], ◌∷◌, ◌++◌, flatten}
 use Rattle.std.proofs.lemmas.List.{length-map, drop-append-le}
 use Rattle.std.proofs.Math.Seq.{slice}
 use Rattle.refusals.specs.declared.Refusal.TheVariants.{Cut, Kind, Length}
-use Rattle.reader.specs.declared.Record.{Record}
-use Rattle.reader.specs.declared.Record.TheVariants.{Store, Sample, Refused}
+use Rattle.reader.specs.declared.Record.TheVariants.{Store, Sample}
 use Rattle.reader.specs.declared.Step.{Step}
-use Rattle.reader.specs.File.{word_at, no_kind, whole_at, record_at}
+use Rattle.reader.specs.File.{Item, word_at, no_kind, whole_at, record_at}
 use Rattle.reader.specs.File.{positions_within, positions_from, records_from, records_of, spans_from, spans_of}
 
 -- a record that the file cuts off, and one whose bytes are all there
-pub cut_at : (s : List ℕ) (at : ℕ) → length s < at + 2 + word_at s at → record_at s at ≡ record { item = Refused Cut; next = length s }
+pub cut_at : (s : List ℕ) (at : ℕ) → length s < at + 2 + word_at s at → record_at s at ≡ record { item = Err Cut; next = length s }
 unfolding record_at
 cut_at s at h = go (ltb (length s - at) 2) refl
   where
-    go : (b : Bool) → ltb (length s - at) 2 ≡ b → record_at s at ≡ record { item = Refused Cut; next = length s }
+    go : (b : Bool) → ltb (length s - at) 2 ≡ b → record_at s at ≡ record { item = Err Cut; next = length s }
     go true e = rw e
     go false e = rw (e, lt-ltb (length s - at - 2) (word_at s at) (omega (arith, ltb-false (length s - at) 2 e)))
 
@@ -26,7 +25,7 @@ unfolding record_at
 whole_at_lem s at h = rw (le-ltb (length s - at) 2 (omega arith), le-ltb (length s - at - 2) (word_at s at) (omega arith))
 
 -- what holds of both holds of the record at a position
-cut_or_whole : (P : Step → Type 0) (s : List ℕ) (at : ℕ) → P (record { item = Refused Cut; next = length s })
+cut_or_whole : (P : Step → Type 0) (s : List ℕ) (at : ℕ) → P (record { item = Err Cut; next = length s })
     → (at + 2 + word_at s at ≤ length s → P (record { item = whole_at s (at + 2) (word_at s at); next = at + 2 + word_at s at }))
     → P (record_at s at)
 cut_or_whole P s at cut whole = go (ltb (length s) (at + 2 + word_at s at)) refl
@@ -36,11 +35,11 @@ cut_or_whole P s at cut whole = go (ltb (length s) (at + 2 + word_at s at)) refl
     go false e = let h = ltb-false (length s) (at + 2 + word_at s at) e in rw (whole_at_lem s at h) (whole h)
 
 -- what holds of every store, of every sample and of the reader's refusals holds of the record at a position
-pub every_record : (P : Record → Type 0) → ((address value : ℕ) → P (Store address value)) → ((k raw : ℕ) → P (Sample k raw))
-    → P (Refused Cut) → P (Refused Kind) → P (Refused Length) → (s : List ℕ) (at : ℕ) → P (record_at s at).item
+pub every_record : (P : Item → Type 0) → ((address value : ℕ) → P (Ok (Store address value))) → ((k raw : ℕ) → P (Ok (Sample k raw)))
+    → P (Err Cut) → P (Err Kind) → P (Err Length) → (s : List ℕ) (at : ℕ) → P (record_at s at).item
 every_record P store sample cut kind size s at = cut_or_whole (λ r. P r.item) s at cut (λ _. whole (at + 2) (word_at s at))
   where
-    pick : {x y : Record} (b : Bool) → P x → P y → P (cond b x y)
+    pick : {x y : Item} (b : Bool) → P x → P y → P (cond b x y)
     pick true p q = p
     pick false p q = q
 
@@ -152,10 +151,10 @@ pub covered : (s : List ℕ) → flatten (spans_of s) ≡ s
 covered s = covered_from s 0
 
 -- a record that is no cut one; a test between two such
-abbrev pub NotCut : Record → Type 0
-NotCut item = item ≡ Refused Cut → ◌≡◌ {A = ℕ} 0 1
+abbrev pub NotCut : Item → Type 0
+NotCut item = item ≡ Err Cut → ◌≡◌ {A = ℕ} 0 1
 
-pick : {x y : Record} (b : Bool) → NotCut x → NotCut y → NotCut (cond b x y)
+pick : {x y : Item} (b : Bool) → NotCut x → NotCut y → NotCut (cond b x y)
 pick true p q = p
 pick false p q = q
 
@@ -165,17 +164,17 @@ whole_not_cut s at n =
     (pick (eqb (word_at s at) 1) (pick (eqb n 6) (λ e. cc) (λ e. cc)) (pick (eqb n 5) (λ e. cc) (λ e. cc)))
 
 -- a cut record ends the file
-pub cut_next : (s : List ℕ) (at : ℕ) → (record_at s at).item ≡ Refused Cut → (record_at s at).next ≡ length s
+pub cut_next : (s : List ℕ) (at : ℕ) → (record_at s at).item ≡ Err Cut → (record_at s at).next ≡ length s
 cut_next s at =
-    cut_or_whole (λ r. r.item ≡ Refused Cut → r.next ≡ length s) s at (λ _. refl)
+    cut_or_whole (λ r. r.item ≡ Err Cut → r.next ≡ length s) s at (λ _. refl)
     (λ w e. omega (arith, whole_not_cut s (at + 2) (word_at s at) e))
 
 -- a cut record is the last one
-pub cut_last : (s : List ℕ) (before after : List Record) → records_of s ≡ before ++ (Refused Cut ∷ after) → after ≡ []
+pub cut_last : (s : List ℕ) (before after : List Item) → records_of s ≡ before ++ (Err Cut ∷ after) → after ≡ []
 cut_last s = by_records s CutLast end more 0
   where
     CutLast : ℕ → Type 0
-    CutLast at = (before after : List Record) → records_from s at ≡ before ++ (Refused Cut ∷ after) → after ≡ []
+    CutLast at = (before after : List Item) → records_from s at ≡ before ++ (Err Cut ∷ after) → after ≡ []
 
     end : (at : ℕ) → length s ≤ at → CutLast at
     end at h [] after e = cc (records_end s at h)
@@ -183,6 +182,6 @@ cut_last s = by_records s CutLast end more 0
 
     more : (at : ℕ) → at < length s → CutLast (record_at s at).next → CutLast at
     more at h ih [] after e =
-        let item : (record_at s at).item ≡ Refused Cut = cc (records_step s at h) in
+        let item : (record_at s at).item ≡ Err Cut = cc (records_step s at h) in
         cc (records_step s at h, records_end s (record_at s at).next (omega (arith, cut_next s at item)))
     more at h ih (x ∷ before) after e = ih before after (cc (records_step s at h))
