@@ -9,6 +9,7 @@ ghost use Rattle.lines.specs.Lines.{field_text, set_text, loop_text, accepted_te
 ghost use Rattle.lines.specs.Widths.{width_of};
 
 use reader::Record;
+use refusals::Refusal;
 use text::{put_byte, put_decimal, put_hex, put_text};
 
 // A word and a number of at most five digits.
@@ -53,20 +54,20 @@ fn put_loop(out: &mut [u8], at: usize, k: u8, shown: [u16; 4]) -> usize
 }
 
 // What a line says of a record that was carried out.
-fn put_accepted(out: &mut [u8], at: usize, item: Record, shown: [u16; 4]) -> usize
+fn put_accepted(out: &mut [u8], at: usize, item: Result<Record, Refusal>, shown: [u16; 4]) -> usize
     requires { at + 49 ≤ length out.old }
     ensures written { Written out.old at (accepted_text item shown) out.new result }
     ensures upper_bound { result ≤ at + width_of item }
 {
     match item {
-        Record::Store(address, value) => put_set(out, at, address, value),
-        Record::Sample(k, _) => put_loop(out, at, k, shown),
-        Record::Refused(_) => at,
+        Ok(Record::Store(address, value)) => put_set(out, at, address, value),
+        Ok(Record::Sample(k, _)) => put_loop(out, at, k, shown),
+        Err(_) => at,
     }
 }
 
 // What a line says of a record with its number of refusal.
-fn put_said(out: &mut [u8], at: usize, item: Record, number: u8, shown: [u16; 4]) -> usize
+fn put_said(out: &mut [u8], at: usize, item: Result<Record, Refusal>, number: u8, shown: [u16; 4]) -> usize
     requires { at + 49 ≤ length out.old }
     ensures written { Written out.old at (said_text item number shown) out.new result }
     ensures upper_bound { result ≤ at + width_of item }
@@ -83,7 +84,7 @@ pub fn put_line(
     out: &mut [u8],
     at: usize,
     n: usize,
-    item: Record,
+    item: Result<Record, Refusal>,
     number: u8,
     shown: [u16; 4],
 ) -> usize

@@ -1,20 +1,19 @@
 -- What `drill` prints of a file (L9 to L11): a line for each record, and the last line.
 use Rattle.std.specs.Prelude.{ℕ, ◌+◌, ◌*◌, cond, List, [], ◌∷◌, ◌++◌, length, ltb}
 use Rattle.text.specs.Text.{bytes}
-use Rattle.reader.specs.declared.Record.{Record}
-use Rattle.reader.specs.File.{records_of}
+use Rattle.reader.specs.File.{Item, records_of}
 use Rattle.desk.specs.Desk.{reset_desk}
 use Rattle.lines.specs.Lines.{line_text, last_text}
 use Rattle.session.specs.Session.{number_for, shown_for, State, begun, after}
 
 -- L9, L10: the lines of some records from a state on, the last line with them
-unfoldable pub lines_of : State → List Record → List ℕ
+unfoldable pub lines_of : State → List Item → List ℕ
 lines_of t [] = last_text t.count t.refused
 lines_of t (x ∷ xs) =
     line_text (t.count + 1) x (number_for t.desk x) (shown_for t.desk x) ++ lines_of (after t x) xs
 
 -- L9: the lines of the records alone
-unfoldable pub body_of : State → List Record → List ℕ
+unfoldable pub body_of : State → List Item → List ℕ
 body_of t [] = []
 body_of t (x ∷ xs) =
     line_text (t.count + 1) x (number_for t.desk x) (shown_for t.desk x) ++ body_of (after t x) xs

@@ -4,9 +4,8 @@ use Rattle.std.specs.Prelude.{ℕ, ◌+◌, cond, List, [], ◌∷◌, replicate
 use Rattle.refusals.specs.declared.Refusal.{Refusal}
 use Rattle.refusals.specs.declared.Refusal.TheVariants.{Memory}
 use Rattle.refusals.specs.Refusals.{number_of, Answer}
-use Rattle.reader.specs.declared.Record.{Record}
-use Rattle.reader.specs.declared.Record.TheVariants.{Store, Sample, Refused}
-use Rattle.reader.specs.File.{records_of}
+use Rattle.reader.specs.declared.Record.TheVariants.{Store, Sample}
+use Rattle.reader.specs.File.{Item, records_of}
 use Rattle.desk.specs.Desk.{Desk, lent, fitting_of, answer_shown, sampled_at}
 use Rattle.desk.specs.Lists.{Call, store, sample, answer_to, desk_after}
 use Rattle.session.specs.declared.turn.Acted.{Acted}
@@ -17,20 +16,20 @@ pub mod Laws
 -- ---- one record
 
 -- O2: a store and a sample are the desk's calls, and what the reader refuses is none
-abbrev pub by_call : {A : Type 0} → (Call → A) → (Refusal → A) → Record → A
-by_call call none (Store address value) = call (store address value)
-by_call call none (Sample k raw) = call (sample k raw)
-by_call call none (Refused why) = none why
+abbrev pub by_call : {A : Type 0} → (Call → A) → (Refusal → A) → Item → A
+by_call call none (Ok (Store address value)) = call (store address value)
+by_call call none (Ok (Sample k raw)) = call (sample k raw)
+by_call call none (Err why) = none why
 
 -- Q5: its answer, and the number of that: 0 where it is carried out
-abbrev pub answer_for : Desk → Record → Answer
+abbrev pub answer_for : Desk → Item → Answer
 answer_for d x = by_call (answer_to d) (λ why. Err why) x
 
-abbrev pub number_for : Desk → Record → ℕ
+abbrev pub number_for : Desk → Item → ℕ
 number_for d x = number_of (answer_for d x)
 
 -- Q5, O5: the desk after it
-abbrev pub left_for : Desk → Record → Desk
+abbrev pub left_for : Desk → Item → Desk
 left_for d x = by_call (desk_after d) (λ why. d) x
 
 -- Q5: how many refusals a number counts for
@@ -42,13 +41,13 @@ abbrev pub shown_of : Result Line Refusal → List ℕ
 shown_of (Ok l) = l.setpoint ∷ l.pv ∷ l.output ∷ l.status ∷ []
 shown_of (Err why) = replicate 4 0
 
-abbrev pub shown_for : Desk → Record → List ℕ
-shown_for d (Store address value) = replicate 4 0
-shown_for d (Sample k raw) = shown_of (sampled_at d k raw)
-shown_for d (Refused why) = replicate 4 0
+abbrev pub shown_for : Desk → Item → List ℕ
+shown_for d (Ok (Store address value)) = replicate 4 0
+shown_for d (Ok (Sample k raw)) = shown_of (sampled_at d k raw)
+shown_for d (Err why) = replicate 4 0
 
 -- Q5, L9: both
-abbrev pub acted_for : Desk → Record → Acted
+abbrev pub acted_for : Desk → Item → Acted
 acted_for d x = record { number = number_for d x; line = shown_for d x }
 
 abbrev pub acted_by : Result Line Refusal → Acted
@@ -70,7 +69,7 @@ abbrev pub begun : Desk → State
 begun d = record { desk = d; count = 0; refused = 0 }
 
 -- Q5: after one more record
-abbrev pub after : State → Record → State
+abbrev pub after : State → Item → State
 after t x = record {
   desk = left_for t.desk x;
   count = t.count + 1;
@@ -78,12 +77,12 @@ after t x = record {
 }
 
 -- L8: a record, carried out or refused, is followed by the next one
-unfoldable pub run_of : State → List Record → State
+unfoldable pub run_of : State → List Item → State
 run_of t [] = t
 run_of t (x ∷ xs) = run_of (after t x) xs
 
 -- Q5: the answers in order, 0 for a record carried out, else its number of refusal
-unfoldable pub answers_for : Desk → List Record → List ℕ
+unfoldable pub answers_for : Desk → List Item → List ℕ
 answers_for d [] = []
 answers_for d (x ∷ xs) = number_for d x ∷ answers_for (left_for d x) xs
 
@@ -93,7 +92,7 @@ refusals_in [] = 0
 refusals_in (number ∷ rest) = count_of number + refusals_in rest
 
 -- E1: the records of a file as the desk's calls; those that the reader refuses are none
-unfoldable pub calls_of : List Record → List Call
+unfoldable pub calls_of : List Item → List Call
 calls_of [] = []
 calls_of (x ∷ xs) = by_call (λ call. call ∷ calls_of xs) (λ why. calls_of xs) x
 

@@ -25,17 +25,13 @@ fn transcript(file: &[u8], words: &mut [u16], numbers: &mut [i64], out: &mut [u8
 {
     let mut count = 0;
     let mut refused = 0;
-    let mut at = 0;
     let mut place = 0;
-    while at < file.len() {
-        let step = reader::read_record(file, at);
-        let item = step.item;
+    for item in reader::read_records(file) {
         let acted = act(item, words, numbers);
         let line = acted.line;
         count += 1;
         refused += refusals_in(acted.number);
         place = put_line(out, place, count, item, acted.number, line);
-        at = step.next;
     }
     put_last(out, place, count, refused)
 }

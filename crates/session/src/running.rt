@@ -38,15 +38,11 @@ fn carry_all(file: &[u8], words: &mut [u16], numbers: &mut [i64], answers: &mut 
 {
     let mut count = 0;
     let mut refused = 0;
-    let mut at = 0;
-    while at < file.len() {
-        let step = reader::read_record(file, at);
-        let item = step.item;
+    for item in reader::read_records(file) {
         let acted = act(item, words, numbers);
         keep(answers, count, acted.number);
         count += 1;
         refused += refusals_in(acted.number);
-        at = step.next;
     }
     Totals { count, refused }
 }

@@ -29,19 +29,20 @@ fn shown(sampled: Result<Line, Refusal>) -> Acted
     }
 }
 
-pub(crate) fn act(item: Record, words: &mut [u16], numbers: &mut [i64]) -> Acted
+#[tactic(auto, using(desk::proofs::Laws::Desk::answer_shown_lem), unfolding(desk::specs::Lists::answer_to, desk::specs::Lists::desk_after))]
+pub(crate) fn act(item: Result<Record, Refusal>, words: &mut [u16], numbers: &mut [i64]) -> Acted
     ensures acted { result ≡ acted_for (lent words.old numbers.old) item }
     ensures left { lent words.new numbers.new ≡ left_for (lent words.old numbers.old) item }
 {
     match item {
-        Record::Store(address, value) => Acted {
+        Ok(Record::Store(address, value)) => Acted {
             number: number_of(desk::store(words, numbers, address as u64, value)),
             line: [0; 4],
         },
-        Record::Sample(number, raw) => {
+        Ok(Record::Sample(number, raw)) => {
             shown(desk::sample(words, numbers, number as u64, raw as u64))
         }
-        Record::Refused(why) => Acted {
+        Err(why) => Acted {
             number: number_of(Err(why)),
             line: [0; 4],
         },

@@ -3,8 +3,8 @@ use Rattle.std.specs.Prelude.{ℕ, suc, ◌/◌, ◌%◌, Bool, cond, not, ◌&&
 use Rattle.std.proofs.lemmas.List.Edits.{sets}
 use Rattle.refusals.specs.declared.Refusal.TheVariants.{Memory, Room}
 use Rattle.refusals.specs.Refusals.{Case, ◌⇒◌, first_of, Answer}
-use Rattle.reader.specs.declared.Record.{Record}
 use Rattle.reader.specs.declared.Record.TheVariants.{Store}
+use Rattle.reader.specs.File.{Item}
 use Rattle.desk.specs.Desk.{engine_word}
 use Rattle.setups.specs.declared.Wrote.{Wrote}
 use Rattle.setups.specs.declared.Wrote.TheVariants.{Bytes}
@@ -62,6 +62,6 @@ setup_left words out = filled_by (first_of (setup_cases words (length out))) (se
 -- ---- the records that it is
 
 -- L13: the stores of some words, of which the first stands at an address
-unfoldable pub stores_from : ℕ → List ℕ → List Record
+unfoldable pub stores_from : ℕ → List ℕ → List Item
 stores_from address [] = []
-stores_from address (value ∷ rest) = let more = stores_from (suc address) rest in cond (handed_on address value) (Store address value ∷ more) more
+stores_from address (value ∷ rest) = let more = stores_from (suc address) rest in cond (handed_on address value) (Ok (Store address value) ∷ more) more

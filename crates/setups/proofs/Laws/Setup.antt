@@ -1,11 +1,10 @@
 -- The laws of the setup file: its length, the records that it is read as, and the words that these rebuild.
-use Rattle.std.specs.Prelude.{ℕ, zero, suc, ◌+◌, ◌*◌, ◌≤◌, ◌<◌, ◌≡◌, refl, Bool, true, false, cond, not, ◌&&◌, List, [], ◌∷◌, ◌++◌, eqb, length, get_or, drop}
+use Rattle.std.specs.Prelude.{ℕ, zero, suc, ◌+◌, ◌*◌, ◌≤◌, ◌<◌, ◌≡◌, refl, Bool, true, false, cond, not, ◌&&◌, List, [], ◌∷◌, ◌++◌, eqb, length, get_or, drop, Ok}
 use Rattle.std.proofs.Common.{arith, add-suc, add-zero, suc-add, add-one, sym, ap, ◌∙◌, append_assoc, length-append, drop_of_length-le, get_or-append-add, drop-cons, le-ltb}
 use Rattle.std.proofs.lemmas.List.Edits.{sets}
 use Rattle.refusals.specs.Refusals.{first_of, Answer, accepted}
-use Rattle.reader.specs.declared.Record.{Record}
 use Rattle.reader.specs.declared.Record.TheVariants.{Store}
-use Rattle.reader.specs.File.{word_at, record_at, records_from, records_of}
+use Rattle.reader.specs.File.{Item, word_at, record_at, records_from, records_of}
 use Rattle.reader.proofs.Laws.File.{whole_at_lem, records_step, records_end}
 use Rattle.desk.specs.Desk.{engine_word}
 use Rattle.setups.specs.declared.Wrote.TheVariants.{Bytes}
@@ -48,11 +47,11 @@ unfolding bytes_from stores_from
 bytes_length address [] = refl
 bytes_length address (value ∷ rest) = simp length-append (go (handed_on address value) (bytes_length (suc address) rest))
   where
-    more : List Record
+    more : List Item
     more = stores_from (suc address) rest
 
     go : (b : Bool) → length (bytes_from (suc address) rest) ≡ 8 * length more
-        → length (cond b (store_bytes address value) []) + length (bytes_from (suc address) rest) ≡ 8 * length (cond b (Store address value ∷ more) more)
+        → length (cond b (store_bytes address value) []) + length (bytes_from (suc address) rest) ≡ 8 * length (cond b (Ok (Store address value) ∷ more) more)
     go true ih = omega (arith, ih)
     go false ih = omega (arith, ih)
 
@@ -90,11 +89,11 @@ unfolding stores_from reached
 stores_reached address [] = omega arith
 stores_reached address (value ∷ rest) = go (eqb value 0) (engine_word address) (stores_reached (suc address) rest)
   where
-    more : List Record
+    more : List Item
     more = stores_from (suc address) rest
 
     go : (none reserved : Bool) → length more ≤ reached (suc address) (length rest)
-        → length (cond (not none && not reserved) (Store address value ∷ more) more) ≤ cond reserved 0 1 + reached (suc address) (length rest)
+        → length (cond (not none && not reserved) (Ok (Store address value) ∷ more) more) ≤ cond reserved 0 1 + reached (suc address) (length rest)
     go true true ih = omega (arith, ih)
     go true false ih = omega (arith, ih)
     go false true ih = omega (arith, ih)
@@ -130,7 +129,7 @@ word_behind before l at j e =
 
 -- a store's bytes, wherever they stand, are read as that store, and the reading goes on behind them
 pub store_read : (before after : List ℕ) (address value : ℕ)
-    → record_at (before ++ (store_bytes address value ++ after)) (length before) ≡ record { item = Store address value; next = length before + 8 }
+    → record_at (before ++ (store_bytes address value ++ after)) (length before) ≡ record { item = Ok (Store address value); next = length before + 8 }
 store_read before after address value =
     let n = length before in
     let l = store_bytes address value ++ after in
@@ -153,7 +152,7 @@ bytes_read before address (value ∷ rest) =
     go : (b : Bool) → records_from (before ++ bytes_from (suc address) rest) (length before) ≡ stores_from (suc address) rest
         → records_from ((before ++ store_bytes address value) ++ bytes_from (suc address) rest) (length (before ++ store_bytes address value)) ≡ stores_from (suc address) rest
         → records_from (before ++ (cond b (store_bytes address value) [] ++ bytes_from (suc address) rest)) (length before)
-        ≡ cond b (Store address value ∷ stores_from (suc address) rest) (stores_from (suc address) rest)
+        ≡ cond b (Ok (Store address value) ∷ stores_from (suc address) rest) (stores_from (suc address) rest)
     go false passed behind = passed
     go true passed behind =
         let more = bytes_from (suc address) rest in
@@ -162,7 +161,7 @@ bytes_read before address (value ∷ rest) =
         let there : length (before ++ store_bytes address value) ≡ length before + 8 = length-append before (store_bytes address value) in
         records_step s (length before) some
         ∙ rw (store_read before more address value)
-        (ap (λ l. Store address value ∷ l) (rw (append_assoc before (store_bytes address value) more, there) at behind))
+        (ap (λ l. Ok (Store address value) ∷ l) (rw (append_assoc before (store_bytes address value) more, there) at behind))
 
 -- a setup file is read as the stores of its words
 pub setup_read : (words : List ℕ) → records_of (setup_of words) ≡ stores_from 0 words

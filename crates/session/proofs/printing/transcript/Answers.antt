@@ -1,28 +1,45 @@
--- `session::transcript` meets its contract: the lines of the records left, written at the place reached, would complete the text. The bytes
--- left become fewer.
+-- `session::transcript` meets its contract: the lines of the records left, written at the place reached, would complete the text.
 use native.Mathlib.Omega.{arith}
-use mathlib.Core.Path.{ap, ◌∙◌}
-use Rattle.reader.specs.declared.Step.{Step}
-use Rattle.reader.proofs.Laws.File.{next_bounds}
+use mathlib.Core.Path.{refl, ap, ◌∙◌}
+use lib.ListN.{length}
+use Rattle.reader.specs.File.{records_left}
 use Rattle.session.specs.declared.turn.Acted.{Acted}
-use Rattle.session.proofs.Loops.{tell, end_telling}
+use Rattle.session.specs.Session.Laws.{count_small}
+use Rattle.session.proofs.Loops.{few, start_telling, tell, end_telling}
 use Rattle.session.proofs.printing.transcript.Goals as goal
 
-pub loop-at-smaller : goal.loop-at-smaller
-loop-at-smaller c =
-    let e = ap (λ (z : Step). z.next) c.read_record-step.ensures in
-    omega (arith, e, next_bounds c.args.file.now c.loop-at.at c.loop-at-test.true)
+pub loop-item-init : goal.loop-item-init
+loop-item-init c = (tt, (tt, (start_telling _ _ _ _ (ap records_left c.into_iter-item-iterator.ensures.into_iter_gives ∙ c.read_records-item-items.ensures), (refl, refl))))
 
-pub loop-at-preserved : goal.loop-at-preserved
-loop-at-preserved c = (
-  tell _ _ _ _ c.loop-at.invariant.0 c.loop-at-test.true c.read_record-step.ensures
-      (record { number_of_lem = ap (λ (x : Acted). x.number) c.act-acted.ensures.acted; left = c.act-acted.ensures.left; count = c.refusals_in-refused.ensures }) (ap (λ (x : Acted). x.line) c.act-acted.ensures.acted)
-      c.put_line-place.ensures.written c.put_line-place.ensures.upper_bound,
-  (c.act-acted.auto.words ∙ c.loop-at.invariant.1.0, c.act-acted.auto.numbers ∙ c.loop-at.invariant.1.1),
-)
+pub overflow_add-count : goal.overflow_add-count
+overflow_add-count c = omega (arith, few _ _ _ c.loop-item.invariant.1.1.0.going)
+
+pub overflow_add-refused : goal.overflow_add-refused
+overflow_add-refused c = omega (arith, few _ _ _ c.loop-item.invariant.1.1.0.going, c.loop-item.invariant.1.1.0.going.fewer, c.refusals_in-refused.ensures, count_small c.act-acted.result.number)
+
+pub put_line-place-requires : goal.put_line-place-requires
+put_line-place-requires c = let i = c.loop-item.invariant.1.1.0 in omega (arith, few _ _ _ i.going, i.going.all, i.most, i.same, c.requires, ap length c.in-Some.ensures.steps)
+
+pub loop-item-preserved : goal.loop-item-preserved
+loop-item-preserved c =
+    let i = c.loop-item.invariant.1.1 in
+    let a = c.act-acted in (
+      tt,
+      (
+        tt,
+        (
+          tell _ _ _ _ i.0 c.in-Some.ensures.steps
+              (record { number_of_lem = ap (λ (x : Acted). x.number) a.ensures.acted; left = a.ensures.left; count = c.refusals_in-refused.ensures })
+              (ap (λ (x : Acted). x.line) a.ensures.acted) c.put_line-place.ensures.written c.put_line-place.ensures.upper_bound,
+          (a.auto.words ∙ i.1.0, a.auto.numbers ∙ i.1.1),
+        ),
+      ),
+    )
 
 pub returns : goal.returns
-returns c = record {
-  written = end_telling _ _ _ _ c.loop-at.invariant.0 c.loop-at-test.false c.put_last.ensures.written;
-  upper_bound = omega (arith, c.put_last.ensures.upper_bound, c.loop-at.invariant.0, c.loop-at-test.false);
-}
+returns c =
+    let i = c.loop-item.invariant.1.1.0 in
+    record {
+      written = end_telling _ _ _ _ i c.in-None.ensures.steps.0 c.put_last.ensures.written;
+      upper_bound = omega (arith, c.put_last.ensures.upper_bound, i.most);
+    }

@@ -1,16 +1,13 @@
--- `session::transcript` meets its contract: the lines of the records left, written at the place reached, would complete the text. The bytes
--- left become fewer.
-use Prim.Native.Nat.{◌-◌}
+-- `session::transcript` meets its contract: the lines of the records left, written at the place reached, would complete the text.
 use mathlib.Core.Path.{◌≡◌}
 use lib.ListN.{length}
+use Rattle.reader.specs.File.{records_left}
 use Rattle.session.proofs.Loops.{Telling}
 use Rattle.session.proofs.printing.transcript.Given as goal
 
-abbrev pub invariant-loop-at : goal.invariant-loop-at
-invariant-loop-at l =
-    Telling l.file l.initial.words l.initial.numbers l.initial.out l.words l.numbers l.count l.refused l.at l.out l.place
-    × ((length l.words ≡ length l.initial.words) × (length l.numbers ≡ length l.initial.numbers))
-
-abbrev pub decreases-loop-at : goal.decreases-loop-at
-decreases-loop-at l =
-    length l.file - l.at
+abbrev pub invariant-loop-item : goal.invariant-loop-item
+invariant-loop-item l =
+    (goal.iterator-loop-item).can_next l.item-iterator
+    × ((goal.iterator-loop-item).is_finite l.item-iterator
+    × (Telling l.file l.initial.words l.initial.numbers l.initial.out l.words l.numbers l.count l.refused (records_left l.item-iterator) l.out l.place
+    × ((length l.words ≡ length l.initial.words) × (length l.numbers ≡ length l.initial.numbers))))
