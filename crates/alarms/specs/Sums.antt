@@ -3,7 +3,7 @@ use Rattle.std.specs.Prelude.{ℕ, ◌+◌, ◌≤◌, ◌≡◌, Bool, cond}
 use Rattle.table.specs.declared.mode.Mode.{Mode}
 use Rattle.table.specs.declared.mode.Mode.TheVariants.{Manual, Automatic, Cascade}
 use Rattle.reading.specs.declared.settings.AlarmLimits.{AlarmLimits}
-use Rattle.table.specs.Words.{bit}
+use Rattle.table.specs.Words.{bit, flag_of}
 use Rattle.alarms.specs.Status.{high_alarm, low_alarm}
 pub mod Laws
 
@@ -11,10 +11,6 @@ pub mod Laws
 pub record Valued (r n b : ℕ) : Type 0 where
   pub value : r ≡ n
   pub small : r ≤ b
-
--- the value of a bit that is on
-abbrev pub flag_of : Bool → ℕ → ℕ
-flag_of on value = cond on value 0
 
 -- B1: bits 0 to 2
 abbrev pub mode_bit : Mode → ℕ

@@ -2,11 +2,11 @@
 ghost use Rattle.std.specs.Prelude.{◌≡◌, cond};
 ghost use Rattle.numbers.specs.Distances.{apart};
 ghost use Rattle.alarms.specs.Status.{bits_word, bits_of, status_of};
-ghost use Rattle.alarms.specs.Sums.{Valued, flag_of, mode_bit, level_bits, deviation_bits};
+ghost use Rattle.alarms.specs.Sums.{Valued, mode_bit, level_bits, deviation_bits};
 
 use crate::alarm::{contradiction, high_alarm, low_alarm, saturated};
 use reading::{AlarmLimits, Mode1, OutputLimits};
-use table::{Mode, is_manual};
+use table::{Mode, flag};
 
 // What the status word tells of one sample.
 #[derive(Clone, Copy)]
@@ -27,13 +27,6 @@ fn mode_bit(mode: Mode) -> u16
         Mode::Automatic => 2,
         Mode::Cascade => 4,
     }
-}
-
-// A bit's value in the word.
-fn flag(on: bool, bit: u16) -> u16
-    ensures { Valued result (flag_of on bit) bit }
-{
-    if on { bit } else { 0 }
 }
 
 // B2, B3: bits 3 to 6, where the PV is watched. `stored` is the status word before the sample.
@@ -79,7 +72,7 @@ pub fn status_word(
 ) -> u16
     ensures { result ≡ bits_word (bits_of (status_of mode bits limits output stored seen)) }
 {
-    let manual = is_manual(mode);
+    let manual = mode.is_manual();
     let levels = level_bits(bits.level, limits, stored, seen.pv);
     let deviations = deviation_bits(
         bits.deviation & !manual,

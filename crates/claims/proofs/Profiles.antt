@@ -10,7 +10,7 @@ use Rattle.numbers.specs.Limits.Laws.{by_test}
 use Rattle.numbers.specs.Distances.{apart}
 use Rattle.reading.specs.declared.program.Program.{Program}
 use Rattle.reading.specs.declared.settings.Mode1.{Mode1}
-use Rattle.table.specs.Words.{bit}
+use Rattle.table.specs.Words.{bit, flag_of}
 use Rattle.table.specs.Words.Laws.{and_true}
 use Rattle.table.specs.Modes.{is_automatic, is_cascade}
 use Rattle.reading.specs.Programs.{fault_of}
@@ -23,7 +23,7 @@ use Rattle.profile.specs.declared.moves.Command.{Command}
 use Rattle.profile.specs.declared.moves.Command.TheVariants.{Start, Hold, Resume, Jog, Nothing}
 use Rattle.profile.specs.Moves.{command_of, with_hold, handed_over, jogged_of, moved_by, worked_by, advanced_by}
 use Rattle.profile.proofs.Laws.Moves.{advanced_stays}
-use Rattle.profile.specs.Flags.{is_soak, deviates, flag_of, flags_of}
+use Rattle.profile.specs.Flags.{is_soak, deviates, flags_of}
 use Rattle.profile.specs.Samples.{sampled_by}
 use Rattle.profile.proofs.Laws.Forecasts.{none_left, one_less}
 use Rattle.carried.specs.Former.{former_of}

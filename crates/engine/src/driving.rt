@@ -9,7 +9,6 @@ use crate::sensing::Sensed;
 use carried::{Carried, Past};
 use control::{Drive, Inputs, Terms};
 use reading::{Mode2, Reading, Settings};
-use table::is_manual;
 
 // A4, A10: word 5 brought inside the output limits.
 #[tactic(auto, using(numbers::specs::Limits::Laws::clamp_word_is), unfolding(crate::specs::Driving::held_of))]
@@ -144,12 +143,10 @@ pub(crate) fn driven(reading: Reading, carried: Carried, sensed: Sensed, held: u
     ensures { result ≡ driven_of reading carried sensed held }
 {
     let s = reading.settings;
-    let mode = reading.mode;
     let kept = carried.past;
     let before = carried.drive;
     let start = started(sensed.entry, held, before);
-    let manual = is_manual(mode);
-    if manual {
+    if reading.mode.is_manual() {
         return start;
     }
     let inputs = inputs_in(s, !carried.sampled | sensed.entry, kept, sensed);

@@ -8,7 +8,7 @@ ghost use Rattle.profile.specs.Premises.{Within};
 use carried::State;
 use profile::{Profile, Profiled};
 use reading::{Program, Reading, Settings};
-use table::{Mode, is_automatic, is_cascade, is_manual};
+use table::Mode;
 
 // PV and setpoint, in counts of the input; the PV converted to counts of the output (M7), in which the error is;
 // whether the sample is an entry; words 27 and 29; and the loop's state after it.
@@ -28,9 +28,7 @@ pub struct Sensed {
 fn own_setpoint(reading: Reading) -> u16
     ensures { result ≡ setpoint_of reading }
 {
-    let mode = reading.mode;
-    let cascade = is_cascade(mode);
-    if cascade {
+    if reading.mode.is_cascade() {
         reading.remote
     } else {
         reading.settings.stored.setpoint
@@ -41,26 +39,21 @@ fn own_setpoint(reading: Reading) -> u16
 fn changes(state: State, velocity: bool) -> bool
     ensures { result ≡ changed state velocity }
 {
-    let former = state.mode;
-    let was = is_manual(former);
-    was | (state.velocity != velocity)
+    state.mode.is_manual() | (state.velocity != velocity)
 }
 
 // A4: whether the sample is an entry: by such a change, or by the mark of a transfer (A13).
 fn enters(state: State, mode: Mode, velocity: bool) -> bool
     ensures { result ≡ entering state mode velocity }
 {
-    let change = changes(state, velocity);
-    let is = is_manual(mode);
-    !is & (change | state.mark)
+    !mode.is_manual() & (changes(state, velocity) | state.mark)
 }
 
 // A11: the mark after the sample: in Manual it stays.
 fn mark_after(mode: Mode, mark: bool) -> bool
     ensures { result ≡ (is_manual mode && mark) }
 {
-    let manual = is_manual(mode);
-    manual & mark
+    mode.is_manual() & mark
 }
 
 // G11: a profile runs, held or not.
@@ -78,8 +71,7 @@ fn target_of(reading: Reading, change: bool, runs: bool, pv: u16) -> u16
     if reading.transfer {
         return pv;
     }
-    let mode = reading.mode;
-    let automatic = is_automatic(mode);
+    let automatic = reading.mode.is_automatic();
     if change & automatic & !reading.settings.mode1.bumpless & !runs {
         pv
     } else {
@@ -92,11 +84,9 @@ fn profiled(reading: Reading, p: Profile, setpoint: u16, pv: u16) -> Profiled
     requires { Within p × (reading.program.pair.duration ≤ 9999) }
     ensures { result ≡ profiled_of reading p setpoint pv }
 {
-    let mode = reading.mode;
     let program = reading.program;
     let flags = reading.settings.stored.flags;
-    let cascade = is_cascade(mode);
-    if cascade {
+    if reading.mode.is_cascade() {
         Profiled {
             profile: p,
             setpoint,
@@ -118,9 +108,7 @@ fn profiled(reading: Reading, p: Profile, setpoint: u16, pv: u16) -> Profiled
 fn fault_after(reading: Reading) -> u16
     ensures { result ≡ fault_after reading }
 {
-    let mode = reading.mode;
-    let cascade = is_cascade(mode);
-    if cascade {
+    if reading.mode.is_cascade() {
         reading.settings.stored.fault
     } else {
         reading.program.fault

@@ -9,7 +9,7 @@ use alarms::Seen;
 use carried::{Carried, Past};
 use control::Drive;
 use reading::Reading;
-use table::{BIAS, MODE_1, OUTPUT, PROFILE_FAULT, PROFILE_FLAGS, PV, SETPOINT, STATUS, is_manual};
+use table::{BIAS, MODE_1, OUTPUT, PROFILE_FAULT, PROFILE_FLAGS, PV, SETPOINT, STATUS};
 
 // A12: the words that a sample writes: 0, 2, 3, 4, 5, 6, 27 and 29.
 #[derive(Clone, Copy)]
@@ -108,8 +108,7 @@ pub(crate) fn words_after(
     ensures { result ≡ written_of reading carried sensed held drive }
 {
     let s = reading.settings;
-    let mode = reading.mode;
-    let manual = is_manual(mode);
+    let manual = reading.mode.is_manual();
     let output = output_word(manual, held, drive);
     let bias = bias_word(
         manual | s.mode1.velocity,

@@ -8,7 +8,7 @@ ghost use Rattle.judging.specs.Judging.{bad_modes, bad_times, bad_limits, bad_se
 
 use reading::{Major, Mode1, OutputLimits, Reading, Tuning};
 use refusals::Refusal;
-use table::{LAST_ADDRESS, is_cascade};
+use table::LAST_ADDRESS;
 
 const LEAST_PERIOD: u16 = 5; // 0.05 s
 
@@ -58,12 +58,11 @@ pub fn judge(reading: Reading, raw: u64) -> Result<(), Refusal>
     ensures { result ≡ first_of (setting_cases reading raw) }
 {
     let s = reading.settings;
-    let mode = reading.mode;
     let bits = s.mode1;
     let tuning = s.tuning;
     let limits = s.limits;
     let scale = s.mode2.input.scale;
-    let cascade = is_cascade(mode);
+    let cascade = reading.mode.is_cascade();
     if s.baddigit | reading.program.baddigit {
         return Err(Refusal::Digit);
     }

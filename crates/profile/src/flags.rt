@@ -1,8 +1,9 @@
 // Word 27 as a sample leaves it (G10).
 ghost use Rattle.std.specs.Prelude.{◌≡◌, ◌≤◌};
-ghost use Rattle.profile.specs.Flags.{is_soak, deviates, flag_of, flags_of};
+ghost use Rattle.profile.specs.Flags.{is_soak, deviates, flags_of};
 
 use crate::state::{Moved, Profile};
+use table::flag;
 
 const SEGMENT: u16 = 256;
 
@@ -18,14 +19,6 @@ fn deviates_by(deviation: u16, setpoint: u16, pv: u16) -> bool
     ensures { result ≡ deviates deviation setpoint pv }
 {
     (deviation != 0) & (deviation < setpoint.abs_diff(pv))
-}
-
-// A bit's value in the word.
-fn flag(on: bool, bit: u16) -> u16
-    ensures value { result ≡ flag_of on bit }
-    ensures bounded { result ≤ bit }
-{
-    if on { bit } else { 0 }
 }
 
 impl Profile {

@@ -7,7 +7,7 @@ ghost use Rattle.reading.specs.Reading.{mode_after, remote_of, reading_of};
 use crate::program::{Program, read_program};
 use crate::settings::{Mode1, Settings, read_settings};
 use crate::transfer::{Major, read_major};
-use table::{LOOP_WORDS, Mode, PROFILE_TABLE, base_of, is_automatic, is_cascade, word_at};
+use table::{LOOP_WORDS, Mode, PROFILE_TABLE, base_of, word_at};
 
 // What is read of the loop's past: its mode so far (A2, A13), and the carried segment (G1).
 #[derive(Clone, Copy)]
@@ -49,8 +49,7 @@ fn is_transfer(bits: Mode1, former: Mode) -> bool
     ensures { result ≡ transfers former (mode_after bits former) bits.bumpless }
 {
     if bits.cascade {
-        let was = is_automatic(former);
-        was & !bits.manual & !bits.automatic & !bits.bumpless
+        former.is_automatic() & !bits.manual & !bits.automatic & !bits.bumpless
     } else {
         false
     }
@@ -60,8 +59,7 @@ fn is_transfer(bits: Mode1, former: Mode) -> bool
 fn read_remote(words: &[u16], mode: Mode, pointer: u16) -> u16
     ensures { result ≡ remote_of words.now mode pointer }
 {
-    let cascade = is_cascade(mode);
-    if cascade {
+    if mode.is_cascade() {
         word_at(words, pointer as usize)
     } else {
         0
@@ -76,13 +74,12 @@ pub fn read_loop(words: &[u16], number: u8, former: Former) -> Reading
     let base = base_of(number);
     let settings = read_settings(&words[base..base + LOOP_WORDS]);
     let bits = settings.mode1;
-    let before = former.mode;
-    let mode = mode_after(bits, before);
+    let mode = mode_after(bits, former.mode);
     let remote = read_remote(words, mode, settings.pointer);
     let at = words[base + PROFILE_TABLE];
     let scale = settings.mode2.input.scale;
     let program = read_program(words, bits.profile, at, scale, former.segment);
-    let transfer = is_transfer(bits, before);
+    let transfer = is_transfer(bits, former.mode);
     let major = read_major(words, transfer, number, settings.pointer);
     Reading {
         number,

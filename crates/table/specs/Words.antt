@@ -31,6 +31,10 @@ input_format word = format_by (bit 9 word) (bit 1 word)
 abbrev pub output_format : ℕ → Format → Format
 output_format word input = cond (bit 10 word) (format_by (bit 13 word) (bit 12 word)) input
 
+-- what a bit adds to a word: its value where it is on
+abbrev pub flag_of : Bool → ℕ → ℕ
+flag_of on value = cond on value 0
+
 -- W1: the address of word 0 of loop k
 abbrev pub base_of : ℕ → ℕ
 base_of k = 32 * (k - 1)

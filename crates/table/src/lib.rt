@@ -7,7 +7,7 @@ mod offsets;
 mod words;
 
 pub use format::Format;
-pub use mode::{Mode, is_automatic, is_cascade, is_manual};
+pub use mode::Mode;
 pub use offsets::{
     BIAS, CHANGE, DEADBAND, DEVIATION, DURATION, END, FIRST_FREE, FIRST_TABLE, GAIN, HIGH,
     HIGH_HIGH, HYSTERESIS, LAST_ADDRESS, LAST_TABLE, LOOP_WORDS, LOOPS, LOW, LOW_LOW, MODE_1,
@@ -15,4 +15,4 @@ pub use offsets::{
     PROFILE_FLAGS, PROFILE_TABLE, PV, RATE, RED, RESET, SETPOINT, SLOPE, STATUS, TABLE_WORDS,
     WORDS, YELLOW,
 };
-pub use words::{bad_digit, base_of, clear_requests, decimal, word_at};
+pub use words::{bad_digit, base_of, clear_requests, decimal, flag, word_at};

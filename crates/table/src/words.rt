@@ -1,6 +1,6 @@
 // Single words: BCD digits, the word at an address, and where a loop's words begin.
-ghost use Rattle.std.specs.Prelude.{◌≡◌, get_or};
-ghost use Rattle.table.specs.Words.{bcd, bad_digit, clear_requests, base_of};
+ghost use Rattle.std.specs.Prelude.{◌≡◌, ◌≤◌, get_or};
+ghost use Rattle.table.specs.Words.{bcd, bad_digit, clear_requests, flag_of, base_of};
 
 use crate::offsets::LOOP_WORDS;
 
@@ -22,18 +22,14 @@ pub fn bad_digit(word: u16) -> bool
 pub fn base_of(k: u8) -> usize
     ensures { result ≡ base_of k }
 {
-    if k < 1 {
-        0
-    } else {
-        LOOP_WORDS * (k as usize - 1)
-    }
+    LOOP_WORDS * (k as usize).saturating_sub(1)
 }
 
 // The word at an address; 0 where there is none.
 pub fn word_at(words: &[u16], at: usize) -> u16
     ensures { result ≡ get_or words.now at 0 }
 {
-    if at < words.len() { words[at] } else { 0 }
+    words.get(at).copied().unwrap_or(0)
 }
 
 // A2: mode 1 with the three request bits off.
@@ -41,4 +37,12 @@ pub fn clear_requests(word: u16) -> u16
     ensures { result ≡ clear_requests word }
 {
     word / 8 * 8
+}
+
+// What a bit adds to a word: its value where it is on.
+pub fn flag(on: bool, bit: u16) -> u16
+    ensures value { result ≡ flag_of on bit }
+    ensures bounded { result ≤ bit }
+{
+    if on { bit } else { 0 }
 }

@@ -6,11 +6,12 @@ use Rattle.table.specs.declared.mode.Mode.TheVariants.{Manual, Automatic, Cascad
 use Rattle.reading.specs.declared.settings.Mode1.{Mode1}
 use Rattle.reading.specs.declared.settings.AlarmLimits.{AlarmLimits}
 use Rattle.reading.specs.declared.settings.OutputLimits.{OutputLimits}
+use Rattle.table.specs.Words.{flag_of}
 use Rattle.table.specs.Modes.{is_manual, is_automatic, is_cascade}
 use Rattle.alarms.specs.declared.status.Seen.{Seen}
 use Rattle.numbers.specs.Distances.{apart}
 use Rattle.alarms.specs.Status.{unordered, at_limit, levels_of, status_of, number, bits_word, bits_of}
-use Rattle.alarms.specs.Sums.{flag_of, mode_bit, level_bits, deviation_bits}
+use Rattle.alarms.specs.Sums.{mode_bit, level_bits, deviation_bits}
 
 -- each group, by the numbers of its bits; what is not monitored has none
 mode_sum : (mode : Mode) → mode_bit mode ≡ number (is_manual mode) + 2 * number (is_automatic mode) + 4 * number (is_cascade mode)

@@ -9,9 +9,9 @@ use Rattle.engine.specs.Driving.{kept_in, past_of, moved_of, driven_of}
 use Rattle.engine.proofs.Laws.Driving.{inputs_bounded, ready}
 use Rattle.engine.proofs.driving.driven.Goals as goal
 
-pub returns-then-manual : goal.returns-then-manual
+pub returns-then-is_manual : goal.returns-then-is_manual
 unfolding driven_of moved_of
-returns-then-manual c = simp (c.started-start.ensures, ← c.is_manual-manual.ensures, c.if-manual.true)
+returns-then-is_manual c = simp (c.started-start.ensures, ← c.is_manual.ensures, c.if-is_manual.true)
 
 -- the carried error is what the past has of it where that is not the present
 kept-error : (m : Mode2) (fresh : Bool) (kept : Past) (p : _) (e : ℤ) → nat_abs (past_of m fresh kept p e).error ≤ 65535 → fresh ≡ false → nat_abs kept.error ≤ 65535
@@ -32,4 +32,4 @@ pub returns : goal.returns
 unfolding driven_of moved_of
 returns c =
     c.moved_in.ensures
-    ∙ simp (c.inputs_in-inputs.ensures, c.started-start.ensures, ← c.is_manual-manual.ensures, c.if-manual.false)
+    ∙ simp (c.inputs_in-inputs.ensures, c.started-start.ensures, ← c.is_manual.ensures, c.if-is_manual.false)

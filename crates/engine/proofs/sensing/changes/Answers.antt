@@ -4,4 +4,4 @@ use Rattle.engine.proofs.sensing.changes.Goals as goal
 
 pub returns : goal.returns
 unfolding changed
-returns c = rw c.is_manual-was.ensures
+returns c = rw c.is_manual.ensures

@@ -4,4 +4,4 @@ use Rattle.engine.proofs.sensing.enters.Goals as goal
 
 pub returns : goal.returns
 unfolding entering
-returns c = rw (c.is_manual-is.ensures, c.changes-change.ensures)
+returns c = rw (c.is_manual.ensures, c.changes.ensures)

@@ -1,12 +1,11 @@
 -- `reading::read_remote` meets its contract: each arm rewrites with the test that led there.
-use mathlib.Core.Path.{sym, ◌∙◌}
 use Rattle.reading.specs.Reading.{remote_of}
 use Rattle.reading.proofs.reading.read_remote.Goals as goal
 
-pub returns-then-cascade : goal.returns-then-cascade
+pub returns-then-is_cascade : goal.returns-then-is_cascade
 unfolding remote_of
-returns-then-cascade c = rw (c.word_at.ensures, sym c.is_cascade-cascade.ensures ∙ c.if-cascade.true)
+returns-then-is_cascade c = rw (c.word_at.ensures, ← c.is_cascade.ensures, c.if-is_cascade.true)
 
-pub returns-else-cascade : goal.returns-else-cascade
+pub returns-else-is_cascade : goal.returns-else-is_cascade
 unfolding remote_of
-returns-else-cascade c = rw (sym c.is_cascade-cascade.ensures ∙ c.if-cascade.false)
+returns-else-is_cascade c = rw (← c.is_cascade.ensures, c.if-is_cascade.false)
