@@ -1,10 +1,11 @@
 // What a program is asked for by its argument: the file of that name, standard input without one, or its help.
-ghost use Rattle.std.specs.Prelude.{◌≡◌, ◌≤◌, ◌↔◌, length, IsTrue};
+ghost use Rattle.std.specs.Prelude.{◌≡◌, ◌≤◌, ◌↔◌, length, IsTrue, IfOk};
 ghost use Rattle.text.specs.Text.{bytes};
 ghost use Rattle.streams.specs.Counts.{IsPrefixLen};
+ghost use Rattle.programs.specs.Reads.{IsStartOf};
 
 use crate::names::hide_controls;
-use crate::telling::{LONGEST_NAME, say, tell};
+use crate::telling::{LONGEST_NAME, Teller};
 use std::env::{Env, FillError};
 use std::fs::File;
 use std::io;
@@ -18,51 +19,27 @@ const TOO_LONG: i32 = 36; // ENAMETOOLONG
 
 const NO_TEXT: i32 = 84; // EILSEQ
 
-#[derive(Drop)]
+#[derive(Clone, Copy, Debug, PartialEq, Eq)]
 pub enum Asked {
-    File, // which was read
+    File(usize), // which was read: so many bytes, at the start of the buffer
     Help,
     Nothing, // that could be read, which was told
 }
 
-#[derive(Drop)]
-pub struct Input {
-    pub asked: Asked,
-    pub count: usize, // how many bytes at the start of the buffer were read
-}
-
-// Asked for, and no byte was read.
-fn nothing_read(asked: Asked) -> Input
-    ensures { (result.asked ≡ asked) × (result.count ≡ 0) }
-{
-    Input { asked, count: 0 }
-}
-
 fn standard_input<I: Read, E: Write>(
     stdin: &mut I,
-    stderr: &mut E,
-    program: &[u8],
+    teller: &mut Teller<'_, E>,
     input: &mut [u8],
-) -> Input
-    requires { length program.now ≤ 8 }
-    ensures { IsPrefixLen result.count input.new }
+) -> Asked
+    ensures { IsStartOf result input.new }
 {
-    let got = streams::read_whole(stdin, input);
-    if let Some(error) = got.failure {
-        tell(stderr, program, b"standard input", &error);
-        return nothing_read(Asked::Nothing);
+    match streams::read_whole(stdin, input) {
+        Ok(count) => Asked::File(count),
+        Err(failure) => {
+            teller.tell(b"standard input", &failure.error);
+            Asked::Nothing
+        }
     }
-    Input {
-        asked: Asked::File,
-        count: got.count,
-    }
-}
-
-fn tell_name<E: Write>(stderr: &mut E, program: &[u8], name: &mut [u8], error: &io::Error)
-    requires { (length program.now ≤ 8) × (length name.old ≤ 4095) }
-{
-    hide_controls(name);
-    tell(stderr, program, name, error);
 }
 
 // std opens a file by a text, so a name that is none cannot be opened.
@@ -73,41 +50,30 @@ fn open<R: Files>(rt: &R, name: &[u8]) -> io::Result<R::File> {
     }
 }
 
-fn file<R: Files, E: Write>(
-    rt: &R,
-    stderr: &mut E,
-    program: &[u8],
-    name: &mut [u8],
-    input: &mut [u8],
-) -> Input
-    requires { (length program.now ≤ 8) × (length name.old ≤ 4095) }
-    ensures { IsPrefixLen result.count input.new }
+fn read_file<R: Files>(rt: &R, name: &[u8], input: &mut [u8]) -> io::Result<usize>
+    ensures { IfOk result (λ n. IsPrefixLen n input.new) }
 {
-    let mut opened = match open(rt, name) {
-        Ok(opened) => opened,
-        Err(error) => {
-            tell_name(stderr, program, name, &error);
-            return nothing_read(Asked::Nothing);
-        }
-    };
-    let got = streams::read_whole(&mut opened, input);
-    if let Some(error) = got.failure {
-        tell_name(stderr, program, name, &error);
-        return nothing_read(Asked::Nothing);
-    }
-    Input {
-        asked: Asked::File,
-        count: got.count,
-    }
+    let mut file = open(rt, name)?;
+    Ok(streams::read_whole(&mut file, input)?)
 }
 
-fn no_name<E: Write>(stderr: &mut E, program: &[u8], error: i32) -> Input
-    requires { length program.now ≤ 8 }
-    ensures { (result.asked ≡ Asked.Nothing) × (result.count ≡ 0) }
+fn file<R: Files, E: Write>(
+    rt: &R,
+    teller: &mut Teller<'_, E>,
+    name: &mut [u8],
+    input: &mut [u8],
+) -> Asked
+    requires { length name.old ≤ 4095 }
+    ensures { IsStartOf result input.new }
 {
-    let error = io::Error::from_raw_os_error(error);
-    tell(stderr, program, b"the file's name", &error);
-    nothing_read(Asked::Nothing)
+    match read_file(rt, name, input) {
+        Ok(count) => Asked::File(count),
+        Err(error) => {
+            hide_controls(name);
+            teller.tell(name, &error);
+            Asked::Nothing
+        }
+    }
 }
 
 fn asks_help(name: &[u8]) -> bool
@@ -117,25 +83,26 @@ fn asks_help(name: &[u8]) -> bool
     name == help
 }
 
-fn argument<R: Env + Files, E: Write>(
-    rt: &R,
-    stderr: &mut E,
-    program: &[u8],
-    input: &mut [u8],
-) -> Input
-    requires { length program.now ≤ 8 }
-    ensures { IsPrefixLen result.count input.new }
+// What the system says of an argument that is not there, or is no file's name.
+fn no_name(error: FillError) -> io::Error {
+    match error {
+        FillError::NotPresent => io::Error::from_raw_os_error(MISSING),
+        FillError::TooLong => io::Error::from_raw_os_error(TOO_LONG),
+    }
+}
+
+fn argument<R: Env + Files, E: Write>(rt: &R, teller: &mut Teller<'_, E>, input: &mut [u8]) -> Asked
+    ensures { IsStartOf result input.new }
 {
     let mut name = [0u8; LONGEST_NAME];
-    let n = match rt.arg(1, &mut name) {
-        Ok(n) => n,
-        Err(FillError::TooLong) => return no_name(stderr, program, TOO_LONG),
-        Err(FillError::NotPresent) => return no_name(stderr, program, MISSING),
-    };
-    if asks_help(&name[..n]) {
-        return nothing_read(Asked::Help);
+    match rt.arg(1, &mut name) {
+        Ok(n) if asks_help(&name[..n]) => Asked::Help,
+        Ok(n) => file(rt, teller, &mut name[..n], input),
+        Err(error) => {
+            teller.tell(b"the file's name", &no_name(error));
+            Asked::Nothing
+        }
     }
-    file(rt, stderr, program, &mut name[..n], input)
 }
 
 fn has_argument<R: Env>(rt: &R, i: usize) -> bool {
@@ -147,23 +114,17 @@ fn has_argument<R: Env>(rt: &R, i: usize) -> bool {
 pub fn read_input<R: Env + Files, I: Read, E: Write>(
     rt: &R,
     stdin: &mut I,
-    stderr: &mut E,
-    program: &[u8],
+    teller: &mut Teller<'_, E>,
     input: &mut [u8],
-) -> Input
-    requires { length program.now ≤ 8 }
-    ensures { IsPrefixLen result.count input.new }
+) -> Asked
+    ensures { IsStartOf result input.new }
 {
     if !has_argument(rt, 1) {
-        return standard_input(stdin, stderr, program, input);
+        return standard_input(stdin, teller, input);
     }
     if !has_argument(rt, 2) {
-        return argument(rt, stderr, program, input);
+        return argument(rt, teller, input);
     }
-    say(
-        stderr,
-        program,
-        b"more than one argument, and nothing was read\n",
-    );
-    nothing_read(Asked::Nothing)
+    teller.say(b"more than one argument, and nothing was read\n");
+    Asked::Nothing
 }

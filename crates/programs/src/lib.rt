@@ -9,6 +9,6 @@ mod names;
 mod telling;
 mod writing;
 
-pub use asking::{Asked, Input, read_input};
-pub use telling::say;
+pub use asking::{Asked, read_input};
+pub use telling::Teller;
 pub use writing::write;

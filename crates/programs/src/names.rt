@@ -8,18 +8,13 @@ const DELETE: u8 = 127; // the control byte that is not below a space
 pub(crate) fn hide_controls(text: &mut [u8])
     ensures { text.new ≡ map shown_byte text.old }
 {
-    let mut i = 0;
-    while i < text.len() {
-        text[i] = shown(text[i]);
-        i += 1;
+    for b in text.iter_mut() {
+        *b = shown(*b);
     }
 }
 
 fn shown(b: u8) -> u8
     ensures { result ≡ shown_byte b }
 {
-    if b < b' ' {
-        return b'?';
-    }
-    if b == DELETE { b'?' } else { b }
+    if b < b' ' || b == DELETE { b'?' } else { b }
 }

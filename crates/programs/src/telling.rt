@@ -1,5 +1,5 @@
 // A failure told in one line on standard error: `PROGRAM: WHAT: REASON`, or `PROGRAM: WHAT` where the system has no reason.
-ghost use Rattle.std.specs.Prelude.{◌+◌, ◌≤◌, ℕ, List, length};
+ghost use Rattle.std.specs.Prelude.{◌≡◌, ◌+◌, ◌≤◌, ℕ, List, length};
 ghost use Rattle.std.specs.Io.{StartsWith};
 ghost use Rattle.text.specs.Text.{Written};
 ghost use Rattle.streams.specs.Counts.{IsPrefixLen};
@@ -52,25 +52,45 @@ fn reason_in(text: &str) -> &str
     }
 }
 
-// What failed, and the error's reason.
-pub(crate) fn tell<E: Write>(stderr: &mut E, program: &[u8], what: &[u8], error: &io::Error)
-    requires { (length program.now ≤ 8) × (length what.now ≤ 4095) }
-    ensures { (reason : List ℕ) × AppendsStart (E.contents stderr.old) (E.contents stderr.new) (failure_of program.now what.now reason) }
-{
-    let text = InlineText::<REASON>::of(error);
-    let reason = reason_in(text.as_str());
-    let mut line = [0u8; LINE];
-    let n = put_failure(&mut line, program, what, reason.as_bytes());
-    streams::write_whole(stderr, &line[..n]);
+// Standard error, on which a program tells what failed, each time in one line behind its name.
+#[derive(Drop)]
+pub struct Teller<'a, E> {
+    pub stderr: E,
+    pub program: &'a [u8],
+    ghost short: { length program.now ≤ 8 },
 }
 
-// What went wrong, of which the system says nothing; its line feed is part of it.
-// Proved: it is safe and ends, and what is written of the line is its start. What the system writes no contract can say.
-pub fn say<E: Write>(stderr: &mut E, program: &[u8], what: &[u8])
-    requires { (length program.now ≤ 8) × (length what.now ≤ 4095) }
-    ensures { AppendsStart (E.contents stderr.old) (E.contents stderr.new) (told_of program.now what.now) }
-{
-    let mut line = [0u8; TOLD];
-    let n = put_told(&mut line, program, what);
-    streams::write_whole(stderr, &line[..n]);
+impl<'a, E: Write> Teller<'a, E> {
+    pub fn new(stderr: E, program: &'a [u8]) -> Self
+        requires { length program.now ≤ 8 }
+        ensures stderr { result.stderr ≡ stderr }
+        ensures program { result.program.now ≡ program.now }
+    {
+        Self { stderr, program }
+    }
+
+    // What failed, and the error's reason.
+    pub(crate) fn tell(&mut self, what: &[u8], error: &io::Error)
+        requires { length what.now ≤ 4095 }
+        ensures program { self.new.program.now ≡ self.old.program.now }
+        ensures line { (reason : List ℕ) × AppendsStart (E.contents self.old.stderr) (E.contents self.new.stderr) (failure_of self.old.program.now what.now reason) }
+    {
+        let text = InlineText::<REASON>::of(error);
+        let reason = reason_in(text.as_str());
+        let mut line = [0u8; LINE];
+        let n = put_failure(&mut line, self.program, what, reason.as_bytes());
+        let _ = streams::write_whole(&mut self.stderr, &line[..n]);
+    }
+
+    // What went wrong, of which the system says nothing; its line feed is part of it.
+    // Proved: it is safe and ends, and what is written of the line is its start. What the system writes no contract can say.
+    pub fn say(&mut self, what: &[u8])
+        requires { length what.now ≤ 4095 }
+        ensures program { self.new.program.now ≡ self.old.program.now }
+        ensures line { AppendsStart (E.contents self.old.stderr) (E.contents self.new.stderr) (told_of self.old.program.now what.now) }
+    {
+        let mut line = [0u8; TOLD];
+        let n = put_told(&mut line, self.program, what);
+        let _ = streams::write_whole(&mut self.stderr, &line[..n]);
+    }
 }

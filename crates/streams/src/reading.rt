@@ -1,58 +1,40 @@
 // Reading a reader to its end.
-ghost use Rattle.std.specs.Prelude.{◌≡◌, ◌<◌, length, take, IfNone, IsSome};
+ghost use Rattle.std.specs.Prelude.{◌≡◌, ◌<◌, length, take, IfOk};
 ghost use Rattle.std.specs.Io.KnownBytes.{Consumes, IsAtEnd};
-ghost use Rattle.streams.specs.Counts.{IsPrefixLen};
-ghost use Rattle.streams.specs.Steps.{Reads, Within};
+ghost use Rattle.streams.specs.Counts.{IsPrefixLen, count_of};
 
 use crate::TRIES;
-use crate::steps::{Step, step_of};
 use std::io;
-use std::io::Read;
+use std::io::{ErrorKind, Read};
 
-#[derive(Drop)]
-pub struct Got {
-    pub failure: Option<io::Error>, // why a read failed, where one did
-    pub count: usize, // how many bytes at the start of the buffer were read
+#[derive(Debug, Drop)]
+pub struct ReadError {
+    pub error: io::Error, // why a read failed
+    pub count: usize, // how many bytes at the start of the buffer were read until then
 }
 
-impl Got {
-    fn new(failure: Option<io::Error>, count: usize) -> Self
-        ensures { (result.failure ≡ failure) × (result.count ≡ count) }
-    {
-        Self { failure, count }
+impl From<ReadError> for io::Error {
+    fn from(failure: ReadError) -> io::Error {
+        failure.error
     }
 }
 
-// One read into `buf`.
-fn read_some<R: Read>(reader: &mut R, buf: &mut [u8]) -> Step
-    ensures within { Within (length buf.new) result }
-    ensures bytes { Reads (R.remaining reader.old) (R.remaining reader.new) result buf.new }
+// Reads until `buf` is full, the input ends or a read fails, and answers how many bytes these are. A read that was only
+// interrupted is tried again; where the tries are used up, that counts as a failure.
+pub fn read_whole<R: Read>(reader: &mut R, buf: &mut [u8]) -> Result<usize, ReadError>
+    ensures count { IsPrefixLen (count_of result) buf.new }
+    ensures bytes { Consumes (R.remaining reader.old) (R.remaining reader.new) (take (count_of result) buf.new) }
+    ensures end { IfOk result (λ n. n < length buf.new → IsAtEnd (R.remaining reader.new)) }
 {
-    step_of(reader.read(buf))
-}
-
-// Reads until `buf` is full, the input ends or a read fails. A read that was only interrupted is
-// tried again; where the tries are used up, that counts as a failure.
-pub fn read_whole<R: Read>(reader: &mut R, buf: &mut [u8]) -> Got
-    ensures count { IsPrefixLen result.count buf.new }
-    ensures bytes { Consumes (R.remaining reader.old) (R.remaining reader.new) (take result.count buf.new) }
-    ensures end { IfNone result.failure (result.count < length buf.new → IsAtEnd (R.remaining reader.new)) }
-{
-    let mut done = 0;
+    let mut count = 0;
     let mut tries = TRIES;
-    while done < buf.len() {
-        let step = read_some(reader, &mut buf[done..]);
-        match step {
-            Step::Moved(n) => done += n,
-            Step::Nothing => return Got::new(None, done),
-            Step::Interrupted(error) => {
-                if tries == 0 {
-                    return Got::new(Some(error), done);
-                }
-                tries -= 1;
-            }
-            Step::Failed(error) => return Got::new(Some(error), done),
+    while count < buf.len() {
+        match reader.read(&mut buf[count..]) {
+            Ok(0) => return Ok(count),
+            Ok(n) => count += n,
+            Err(error) if error.kind() == ErrorKind::Interrupted && 0 < tries => tries -= 1,
+            Err(error) => return Err(ReadError { error, count }),
         }
     }
-    Got::new(None, done)
+    Ok(count)
 }

@@ -12,7 +12,7 @@ read_so_far a k n xs ys within fits =
     let after = post_of a k xs in
     ap (λ m. take (m + n) (put_mid a k xs ys)) (sym (length-take-le a xs within)) ∙ take-append-add (take a xs) (ys ++ after) n ∙ ap (λ l. take a xs ++ l) (take-append-le n ys after fits)
 
-pub loop-done-preserved-in-Moved : goal.loop-done-preserved-in-Moved
-loop-done-preserved-in-Moved g c =
-    let front = read_so_far c.loop-done.done _ c.in-Moved.n c.loop-done.buf c.read_some-step.new.buf c.loop-done.invariant.0 c.in-Moved.ensures.within.1 in
-    (search rules, subst (Consumes _ _) (sym front) (Consumes-trans _ _ _ _ _ c.loop-done.invariant.1 c.in-Moved.ensures.bytes))
+pub loop-count-preserved-in-Ok : goal.loop-count-preserved-in-Ok
+loop-count-preserved-in-Ok g c =
+    let front = read_so_far c.loop-count.count _ c.in-Ok.n c.loop-count.buf c.read.new.buf c.loop-count.invariant.0 c.in-Ok.ensures.bound.0 in
+    (search rules, subst (Consumes _ _) (sym front) (Consumes-trans _ _ _ _ _ c.loop-count.invariant.1 c.in-Ok.ensures.bytes.0))

@@ -1,14 +1,15 @@
-use Rattle.std.proofs.Common.{◌≡◌, ℕ, ◌+◌, ◌-◌, List, ◌++◌, rules, length, take, drop, sym, ap, ◌∙◌, subst, take-add}
+use Rattle.std.proofs.Common.{◌+◌, ◌≤◌, ◌++◌, arith, length, take, drop, sym, ap, ◌∙◌, subst, take-add, drop-drop, length-drop}
 use Rattle.std.proofs.lemmas.List.{take_rest}
 use Rattle.std.specs.Io.KnownBytes.{Appends}
 use Rattle.std.proofs.KnownBytes.{Appends-trans}
 use Rattle.streams.proofs.writing.write_whole.Goals as goal
 
--- what was taken before, and the first n bytes of what was left
-taken_so_far : (a n : ℕ) (xs : List ℕ) → take a xs ++ take n (take (length xs - a) (drop a xs)) ≡ take (a + n) xs
-taken_so_far a n xs = ap (λ l. take a xs ++ take n l) (take_rest xs a) ∙ sym (take-add a n xs)
-
-pub loop-done-preserved-in-Moved : goal.loop-done-preserved-in-Moved
-loop-done-preserved-in-Moved g c =
-    let front = taken_so_far c.loop-done.done c.in-Moved.n c.args.buf.now in
-    (search rules, subst (Appends _ _) front (Appends-trans _ _ _ _ _ c.loop-done.invariant.1 c.in-Moved.ensures.bytes))
+pub loop-rest-preserved-in-Ok : goal.loop-rest-preserved-in-Ok
+loop-rest-preserved-in-Ok g c =
+    let (a, within, split, appended) = c.loop-rest.invariant in
+    let all = c.args.buf.now in
+    let n = c.in-Ok.n in
+    let fits : a + n ≤ length all = grind (arith, split, length-drop a all, c.in-Ok.ensures.bound) in
+    let left = take_rest c.loop-rest.rest.now n ∙ ap (drop n) split ∙ drop-drop n a all in
+    let front = ap (λ l. take a all ++ take n l) split ∙ sym (take-add a n all) in
+    (a + n, fits, left, subst (Appends _ _) front (Appends-trans _ _ _ _ _ appended c.in-Ok.ensures.bytes))
