@@ -14,6 +14,8 @@ pub struct ReadError {
 }
 
 impl From<ReadError> for io::Error {
+    ghost from_gives = { λ failure r. r ≡ failure.error };
+
     fn from(failure: ReadError) -> io::Error {
         failure.error
     }
