@@ -17,19 +17,16 @@ pub struct Stepped {
 }
 
 // A sample that was judged and accepted, with its PV, of a loop whose record is in range.
+#[tactic(auto, unfolding(crate::specs::Steps::step_of))]
 pub fn step(reading: Reading, carried: Carried, pv: u16) -> Stepped
     requires { Usable reading pv × Ranged carried }
     ensures { result ≡ step_of reading carried pv }
 {
-    let s = reading.settings;
-    let state = carried.state;
-    let sensed = sensed_by(reading, state, pv);
-    let held = held_word(s);
+    let sensed = sensed_by(reading, carried.state, pv);
+    let held = held_word(reading.settings);
     let drive = driven(reading, carried, sensed, held);
-    let written = words_after(reading, carried, sensed, held, drive);
-    let next = next_record(carried, sensed, drive);
     Stepped {
-        written,
-        carried: next,
+        written: words_after(reading, carried, sensed, held, drive),
+        carried: next_record(carried, sensed, drive),
     }
 }

@@ -25,6 +25,7 @@ pub struct Written {
 }
 
 // A10: word 5.
+#[tactic(auto, unfolding(crate::specs::Writing::output_word))]
 fn output_word(manual: bool, held: u16, drive: Drive) -> u16
     requires { Counted drive.output }
     ensures { result ≡ output_word manual held drive.output }
@@ -37,6 +38,7 @@ fn output_word(manual: bool, held: u16, drive: Drive) -> u16
 }
 
 // A10: word 4. `kept` where nothing writes it.
+#[tactic(auto, unfolding(crate::specs::Writing::bias_word))]
 fn bias_word(kept: bool, stored: u16, scale: u16, drive: Drive) -> u16
     ensures { result ≡ bias_word kept stored scale drive.bias }
 {
@@ -47,14 +49,18 @@ fn bias_word(kept: bool, stored: u16, scale: u16, drive: Drive) -> u16
     }
 }
 
-// A11: what is recorded.
+// A11: what is recorded. The PV before the last is at the first accepted sample the PV itself.
+#[tactic(auto, unfolding(crate::specs::Writing::next_of))]
 pub(crate) fn next_record(carried: Carried, sensed: Sensed, drive: Drive) -> Carried
     ensures { result ≡ next_of carried sensed drive }
 {
-    let state = sensed.state;
-    let prior = earlier(carried.sampled, carried.past.last, sensed.pv);
+    let prior = if carried.sampled {
+        carried.past.last
+    } else {
+        sensed.pv
+    };
     Carried {
-        state,
+        state: sensed.state,
         drive,
         past: Past {
             last: sensed.pv,
@@ -65,27 +71,18 @@ pub(crate) fn next_record(carried: Carried, sensed: Sensed, drive: Drive) -> Car
     }
 }
 
-// The PV before the last: the recorded one, or at the first accepted sample the PV itself.
-fn earlier(sampled: bool, last: u16, pv: u16) -> u16
-    ensures { result ≡ cond sampled last pv }
-{
-    if sampled { last } else { pv }
-}
-
 // B1 to B8: word 6.
+#[tactic(auto, unfolding(crate::specs::Writing::status_word))]
 fn status_after(reading: Reading, carried: Carried, sensed: Sensed, output: u16) -> u16
     ensures { result ≡ status_word reading carried sensed output }
 {
-    let mode = reading.mode;
-    let bits = reading.settings.mode1;
-    let alarms = reading.settings.alarms;
-    let limits = reading.settings.limits;
+    let s = reading.settings;
     alarms::status_word(
-        mode,
-        bits,
-        alarms,
-        limits,
-        reading.settings.stored.status,
+        reading.mode,
+        s.mode1,
+        s.alarms,
+        s.limits,
+        s.stored.status,
         Seen {
             pv: sensed.pv,
             setpoint: sensed.setpoint,
@@ -97,6 +94,7 @@ fn status_after(reading: Reading, carried: Carried, sensed: Sensed, output: u16)
 }
 
 // The words that the sample writes.
+#[tactic(auto, unfolding(crate::specs::Writing::written_of))]
 pub(crate) fn words_after(
     reading: Reading,
     carried: Carried,
@@ -110,31 +108,21 @@ pub(crate) fn words_after(
     let s = reading.settings;
     let manual = reading.mode.is_manual();
     let output = output_word(manual, held, drive);
-    let bias = bias_word(
-        manual | s.mode1.velocity,
-        s.stored.bias,
-        s.mode2.output.scale,
-        drive,
-    );
-    let status = status_after(reading, carried, sensed, output);
-    let word = table::clear_requests(s.stored.word);
-    let setpoint = sensed.setpoint;
-    let pv = sensed.pv;
-    let flags = sensed.flags;
-    let fault = sensed.fault;
+    let kept = manual | s.mode1.velocity;
     Written {
-        word,
-        setpoint,
-        pv,
-        bias,
+        word: table::clear_requests(s.stored.word),
+        setpoint: sensed.setpoint,
+        pv: sensed.pv,
+        bias: bias_word(kept, s.stored.bias, s.mode2.output.scale, drive),
         output,
-        status,
-        flags,
-        fault,
+        status: status_after(reading, carried, sensed, output),
+        flags: sensed.flags,
+        fault: sensed.fault,
     }
 }
 
 // The eight words stored: those of loop `number`.
+#[tactic(auto, unfolding(crate::specs::Writing::written_to))]
 pub fn write_words(words: &mut [u16], number: u8, w: Written)
     requires { base_of number + 32 ≤ length words.old }
     ensures { words.new ≡ written_to words.old (base_of number) w }

@@ -10,7 +10,7 @@ use Rattle.numbers.specs.Whole.{linear, add, sub, abs_add, abs_sub}
 use Rattle.control.specs.declared.terms.Inputs.{Inputs}
 use Rattle.numbers.proofs.Machine.{sub_fits, small, via}
 use Rattle.engine.specs.Driving.{velocity_inputs}
-use Rattle.engine.proofs.driving.velocity_inputs.Goals as goal
+use Rattle.engine.proofs.sensing.Sensed.velocity_inputs.Goals as goal
 
 -- p − 2 × last + prior
 second-difference : (p last prior : ℕ) → (pos p -ℤ pos last) -ℤ (pos last -ℤ pos prior) ≡ (pos p -ℤ pos (2 * last)) +ℤ pos prior
@@ -45,7 +45,7 @@ pub returns : goal.returns
 unfolding velocity_inputs
 returns c =
     let a = c.args in
-    let h = sub_fits a.e a.past.error (omega arith) in
-    let e = exact a.pv a.past.last a.past.prior c.difference-change.ensures c.difference-before.ensures in
-    let k = exact-fits a.pv a.past.last a.past.prior (omega arith) (omega arith) (omega arith) e in
+    let h = sub_fits a.self.error a.past.error (omega arith) in
+    let e = exact a.self.converted a.past.last a.past.prior c.difference-change.ensures c.difference-before.ensures in
+    let k = exact-fits a.self.converted a.past.last a.past.prior (omega arith) (omega arith) (omega arith) e in
     same (search rules) (search rules) (via (c.difference-change.result -ℤ c.difference-before.result) (search rules) e)
