@@ -21,7 +21,7 @@ fn bad_modes(bits: Mode1, unused: bool, hysteresis: u16) -> bool
     (bits.velocity & bits.bumpless)
         | bits.limited
         | unused
-        | ((bits.level | bits.deviation) & ((hysteresis < 1) | (MOST_HYSTERESIS < hysteresis)))
+        | ((bits.level | bits.deviation) & !(1..=MOST_HYSTERESIS).contains(&hysteresis))
 }
 
 // N12: the period or the reset time.
@@ -43,14 +43,14 @@ fn bad_setpoint(cascade: bool, scale: u16, setpoint: u16, pointer: u16, remote: 
     ensures { result ≡ bad_setpoint cascade scale setpoint pointer remote }
 {
     (!cascade & (scale < setpoint))
-        | (cascade & ((LAST_ADDRESS < pointer as u64) | (scale < remote)))
+        | (cascade & ((LAST_ADDRESS < u64::from(pointer)) | (scale < remote)))
 }
 
 // N9: the raw PV, of any size, above full scale.
 fn above(scale: u16, raw: u64) -> bool
     ensures { result ≡ ltb scale raw }
 {
-    (scale as u64) < raw
+    u64::from(scale) < raw
 }
 
 // O4: the first refusal whose condition holds, in O3's order.
