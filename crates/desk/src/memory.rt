@@ -11,6 +11,7 @@ use table::{LOOPS, WORDS};
 
 const LAST_LOOP: u64 = LOOPS as u64;
 
+#[tactic(auto, unfolding(crate::specs::Desk::fitting_of))]
 pub fn fitting(words: &[u16], numbers: &[i64]) -> bool
     ensures { result ≡ fitting_of (lent words.now numbers.now) }
 {
@@ -18,6 +19,7 @@ pub fn fitting(words: &[u16], numbers: &[i64]) -> bool
 }
 
 // N4: there is no loop of that number.
+#[tactic(auto, unfolding(crate::specs::Desk::no_loop))]
 fn no_loop(number: u64) -> bool
     ensures { result ≡ no_loop number }
 {
@@ -25,6 +27,7 @@ fn no_loop(number: u64) -> bool
 }
 
 // N4, N5: there is such a loop, and its record is in range.
+#[tactic(auto, using(crate::proofs::Laws::Desk::loop_there))]
 pub(crate) fn known_loop(numbers: &[i64], number: u64) -> Result<(), Refusal>
     requires { length numbers.now ≡ number_count }
     ensures { result ≡ first_of (loop_cases numbers.now number) }

@@ -28,6 +28,7 @@ impl From<Line> for [u16; 4] {
 }
 
 // A13: at a transfer, the PV into the major loop's output word, and the mark into its record.
+#[tactic(auto, unfolding(crate::specs::Desk::transfer_left))]
 fn put_transfer(words: &mut [u16], numbers: &mut [i64], transfer: bool, major: u8, pv: u16)
     requires { (length words.old ≡ 1024) × (length numbers.old ≡ number_count) × (major ≤ 16) }
     ensures { lent words.new numbers.new ≡ transfer_left transfer major pv (lent words.old numbers.old) }
@@ -40,6 +41,7 @@ fn put_transfer(words: &mut [u16], numbers: &mut [i64], transfer: bool, major: u
 }
 
 // What an accepted sample comes to, written.
+#[tactic(auto, unfolding(crate::specs::Desk::done_by))]
 fn write_back(words: &mut [u16], numbers: &mut [i64], number: u8, reading: Reading, done: Stepped)
     requires { (length words.old ≡ 1024) × (length numbers.old ≡ number_count) × (number ≤ 16) × (reading.major.number ≤ 16) }
     ensures { lent words.new numbers.new ≡ done_by (lent words.old numbers.old) number reading done }

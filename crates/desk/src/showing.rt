@@ -7,6 +7,7 @@ use carried::{FIELDS, NUMBERS, numbers_at, put_numbers, slot_of};
 use refusals::Refusal;
 
 // Q4: the numbers of a loop's record copied out, if they are in range.
+#[tactic(auto, using(crate::proofs::Laws::Desk::known_loop_lem), unfolding(crate::specs::Desk::fields_answer, crate::specs::Desk::fields_left))]
 pub fn fields(numbers: &[i64], number: u64, copied: &mut [i64; FIELDS]) -> Result<(), Refusal>
     ensures answer { result ≡ fields_answer numbers.now number }
     ensures left { copied.new ≡ fields_left numbers.now number copied.old }
