@@ -1,14 +1,13 @@
 -- What the exported functions on drill files answer and leave (Q5, Q6, Q12): the definitions of session and setup file, as numbers.
-use Rattle.std.specs.Prelude.{ℕ, cond, List, eqb, length}
+use Rattle.std.specs.Prelude.{ℕ, cond, List, eqb, length, Result, Ok, Err}
 use Rattle.std.proofs.lemmas.List.Edits.{sets}
+use Rattle.refusals.specs.declared.Refusal.{Refusal}
 use Rattle.refusals.specs.Refusals.{number_of_refusal}
 use Rattle.session.specs.declared.running.Ended.{Ended}
 use Rattle.session.specs.declared.running.Ended.TheVariants.{Counts, Stopped}
 use Rattle.desk.specs.Desk.{Desk}
 use Rattle.session.specs.Session.{answers_of}
 use Rattle.session.specs.Printed.{printed_within}
-use Rattle.setups.specs.declared.Wrote.{Wrote}
-use Rattle.setups.specs.declared.Wrote.TheVariants.{Refused, Bytes}
 use Rattle.setups.specs.Setup.{setup_answer, setup_left}
 
 -- ---- a file carried out: the answer and the two counts
@@ -49,9 +48,9 @@ unfoldable pub print_left : List ℕ → List ℕ → ℕ → Filled
 print_left file out size = printed_by (printed_within (length out) file) out size
 
 -- Q12: by what the writer answers; where it refuses, the length stays (Q8)
-abbrev pub handed_by : Wrote → List ℕ → ℕ → Filled
-handed_by (Refused why) out size = filled (number_of_refusal why) out size
-handed_by (Bytes n) out size = filled 0 out n
+abbrev pub handed_by : Result ℕ Refusal → List ℕ → ℕ → Filled
+handed_by (Err why) out size = filled (number_of_refusal why) out size
+handed_by (Ok n) out size = filled 0 out n
 
 -- Q12: the answer, the room lent and the length after a setup file
 unfoldable pub setup_filled : List ℕ → List ℕ → ℕ → Filled

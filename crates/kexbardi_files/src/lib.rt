@@ -9,9 +9,8 @@ ghost use Rattle.desk.specs.Desk.{lent};
 ghost use Rattle.session.specs.Session.{ended_of, left_of};
 ghost use Rattle.kexbardi_files.specs.Files.{ended, ended_by, answers_left, filled, print_left, setup_filled};
 
-use refusals::{MEMORY, number_of};
+use refusals::{ACCEPTED, MEMORY, number_of};
 use session::Ended;
-use setups::Wrote;
 
 // Q5: a file of any length carried out. 5. Else the answer to each record goes into `answers` in order, as
 // far as there is room, and the counts of records and of refused ones into `count` and `refused`.
@@ -59,12 +58,11 @@ pub extern "C" fn kexbardi_print(file: &[u8], out: &mut [u8], size: &mut usize) 
 pub extern "C" fn kexbardi_setup(words: &[u16], out: &mut [u8], size: &mut usize) -> u8
     ensures { filled result out.new size.new ≡ setup_filled words.now out.old size.old }
 {
-    let wrote = setups::write_setup(words, out);
-    match wrote {
-        Wrote::Refused(why) => number_of(Err(why)),
-        Wrote::Bytes(n) => {
+    match setups::write_setup(words, out) {
+        Ok(n) => {
             *size = n;
-            0
+            ACCEPTED
         }
+        Err(why) => number_of(Err(why)),
     }
 }

@@ -5,15 +5,13 @@ use mathlib.Core.Path.{◌≡◌, refl, sym, ap, ◌∙◌}
 use mathlib.Core.List.{List}
 use lib.IntN.{ℤ}
 use lib.ListN.{length}
-use Rattle.std.proofs.Common.{length-take-le}
+use Rattle.std.proofs.Common.{length-take-le, Result, Ok, Err}
 use lib.Seq.{sets, length-sets}
 use borrow.Author.Tests.{lt-ltb, le-ltb}
 use Rattle.streams.specs.Counts.{IsPrefixLen}
 use Rattle.text.specs.Text.{Written}
 use Rattle.refusals.specs.declared.Refusal.{Refusal}
 use Rattle.desk.specs.Desk.{lent, reset_desk}
-use Rattle.setups.specs.declared.Wrote.{Wrote}
-use Rattle.setups.specs.declared.Wrote.TheVariants.{Bytes, Refused}
 use Rattle.setups.specs.Setup.{setup_of, setup_answer, setup_left}
 use Rattle.setups.proofs.Laws.Setup.{setup_short, setup_fits}
 use Rattle.session.specs.Session.{left_of}
@@ -28,8 +26,8 @@ unfolding written_of
 too_long file out h = rw (lt-ltb 65536 (length file) h) (record { buffer = refl; place = refl }, prefix 0 out (omega arith))
 
 -- of any other, the setup file of the words that it leaves
-pub record Handed (file out : List ℕ) (wrote : Wrote) (after : List ℕ) : Type 0 where
-  pub answer : wrote ≡ Bytes (length (written_of file))
+pub record Handed (file out : List ℕ) (wrote : Result ℕ Refusal) (after : List ℕ) : Type 0 where
+  pub answer : wrote ≡ Ok (length (written_of file))
   pub left : after ≡ sets out 0 (written_of file)
   pub room : length (written_of file) ≤ length out
 
@@ -37,7 +35,7 @@ file_there : (file words : List ℕ) (numbers : List ℤ) → length file ≤ 65
 unfolding written_of
 file_there file words numbers low left = rw (le-ltb 65536 (length file) low, ← left)
 
-pub handed : (file out words after : List ℕ) (numbers : List ℤ) {wrote : Wrote} → length file ≤ 65536 → lent words numbers ≡ left_of file reset_desk
+pub handed : (file out words after : List ℕ) (numbers : List ℤ) {wrote : Result ℕ Refusal} → length file ≤ 65536 → lent words numbers ≡ left_of file reset_desk
     → length words ≡ 1024 → 7680 ≤ length out → wrote ≡ setup_answer words (length out) → after ≡ setup_left words out → Handed file out wrote after
 handed file out words after numbers low left size room answer put =
     let same = file_there file words numbers low left in
@@ -45,13 +43,9 @@ handed file out words after numbers low left size room answer put =
     let fits = setup_fits words out size enough in
     record { answer = rw same (answer ∙ fits.0); left = rw same (put ∙ fits.1); room = rw same enough }
 
-module _ (file out after : List ℕ) {wrote : Wrote} (h : Handed file out wrote after) where
-  pub written : (n : ℕ) → wrote ≡ Bytes n → Written out 0 (written_of file) after n × IsPrefixLen n after
+module _ (file out after : List ℕ) {wrote : Result ℕ Refusal} (h : Handed file out wrote after) where
+  pub written : (n : ℕ) → wrote ≡ Ok n → Written out 0 (written_of file) after n × IsPrefixLen n after
   written n e =
       let same : n ≡ length (written_of file) = cc h.answer in
       let long : length after ≡ length out = ap (λ (l : List ℕ). length l) h.left ∙ length-sets out 0 (written_of file) in
       (record { buffer = h.left; place = omega (arith, same) }, prefix n after (omega (arith, h.room)))
-
-  -- the writer refuses nothing
-  pub never : (why : Refusal) → wrote ≡ Refused why → ⊥
-  never why e = let z : ◌≡◌ {A = ℕ} 0 1 = cc h.answer in omega arith

@@ -6,7 +6,6 @@ ghost use Rattle.setup.specs.Handing.{written_of};
 
 use desk::{NUMBERS, WORDS};
 use session::LONGEST;
-use setups::Wrote;
 
 pub(crate) const ROOM: usize = 7680; // bytes of the longest setup file
 
@@ -25,9 +24,6 @@ pub(crate) fn hand_on(file: &[u8], out: &mut [u8]) -> usize
     let mut answers = [0u8; 1]; // the answers to the records are not kept
     desk::reset(&mut words, &mut numbers);
     session::run(file, &mut words, &mut numbers, &mut answers);
-    let wrote = setups::write_setup(&words, out);
-    match wrote {
-        Wrote::Bytes(n) => n,
-        Wrote::Refused(_) => 0, // never: the words are 1,024, and there is room for any of them
-    }
+    // Never refused: the words are 1,024, and there is room for any of them.
+    setups::write_setup(&words, out).unwrap()
 }

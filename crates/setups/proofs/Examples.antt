@@ -3,9 +3,9 @@ use Prim.Native.Nat.{ℕ}
 use mathlib.Core.Path.{◌≡◌, refl}
 use mathlib.Core.List.{List, [], ◌∷◌, ◌++◌, map}
 use lib.ListN.{length, replicate}
+use Rattle.std.specs.Prelude.{Result, Ok, Err}
+use Rattle.refusals.specs.declared.Refusal.{Refusal}
 use Rattle.refusals.specs.declared.Refusal.TheVariants.{Memory, Room}
-use Rattle.setups.specs.declared.Wrote.{Wrote}
-use Rattle.setups.specs.declared.Wrote.TheVariants.{Refused, Bytes}
 use Rattle.setups.specs.Setup.{bytes_from, setup_of, setup_answer, setup_left}
 
 -- ---- words and their bytes
@@ -79,18 +79,18 @@ desk = loop_a ++ replicate 998 0
 pub record Call : Type 0 where
   pub words : List ℕ
   pub out : List ℕ
-  pub answer : Wrote
+  pub answer : Result ℕ Refusal
   pub left : List ℕ
 
 -- room for the file and two bytes, for the file alone, and for one byte less; words that are all 0, in no room; a word too few, and a word too many in too little room
 abbrev pub calls : List Call
 calls =
-    record { words = desk; out = replicate 50 0xEE; answer = Bytes 48; left = file ++ (0xEE ∷ 0xEE ∷ []) }
-    ∷ record { words = desk; out = replicate 48 0xEE; answer = Bytes 48; left = file }
-    ∷ record { words = desk; out = replicate 47 0xEE; answer = Refused Room; left = replicate 47 0xEE }
-    ∷ record { words = replicate 1024 0; out = []; answer = Bytes 0; left = [] }
-    ∷ record { words = loop_a ++ replicate 997 0; out = replicate 50 0xEE; answer = Refused Memory; left = replicate 50 0xEE }
-    ∷ record { words = 0 ∷ desk; out = 0xEE ∷ []; answer = Refused Memory; left = 0xEE ∷ [] }
+    record { words = desk; out = replicate 50 0xEE; answer = Ok 48; left = file ++ (0xEE ∷ 0xEE ∷ []) }
+    ∷ record { words = desk; out = replicate 48 0xEE; answer = Ok 48; left = file }
+    ∷ record { words = desk; out = replicate 47 0xEE; answer = Err Room; left = replicate 47 0xEE }
+    ∷ record { words = replicate 1024 0; out = []; answer = Ok 0; left = [] }
+    ∷ record { words = loop_a ++ replicate 997 0; out = replicate 50 0xEE; answer = Err Memory; left = replicate 50 0xEE }
+    ∷ record { words = 0 ∷ desk; out = 0xEE ∷ []; answer = Err Memory; left = 0xEE ∷ [] }
     ∷ []
 
 pub answered : map (λ (c : Call). setup_answer c.words (length c.out)) calls ≡ map (λ (c : Call). c.answer) calls

@@ -1,14 +1,12 @@
 -- The setup file of a desk's words (L13), and what its writer answers and leaves (Q12).
-use Rattle.std.specs.Prelude.{ℕ, suc, ◌/◌, ◌%◌, Bool, cond, not, ◌&&◌, List, [], ◌∷◌, ◌++◌, ltb, eqb, length, Ok, Err}
+use Rattle.std.specs.Prelude.{ℕ, suc, ◌/◌, ◌%◌, Bool, cond, not, ◌&&◌, List, [], ◌∷◌, ◌++◌, ltb, eqb, length, Result, Ok, Err}
 use Rattle.std.proofs.lemmas.List.Edits.{sets}
 use Rattle.refusals.specs.declared.Refusal.TheVariants.{Memory, Room}
-use Rattle.refusals.specs.Refusals.{Case, ◌⇒◌, first_of, Answer}
+use Rattle.refusals.specs.declared.Refusal.{Refusal}
+use Rattle.refusals.specs.Refusals.{Answer, accepted_with, Case, ◌⇒◌, first_of}
 use Rattle.reader.specs.declared.Record.TheVariants.{Store}
 use Rattle.reader.specs.File.{Item}
 use Rattle.desk.specs.Desk.{engine_word}
-use Rattle.setups.specs.declared.Wrote.{Wrote}
-use Rattle.setups.specs.declared.Wrote.TheVariants.{Bytes}
-use Rattle.setups.specs.declared.Wrote.TheVariants.{Refused as No}
 
 -- ---- the file
 
@@ -43,13 +41,9 @@ setup_of words = bytes_from 0 words
 abbrev pub setup_cases : List ℕ → ℕ → List Case
 setup_cases words room = (not (eqb (length words) 1024) ⇒ Memory) ∷ (ltb room (length (setup_of words)) ⇒ Room) ∷ []
 
-abbrev pub wrote_by : Answer → ℕ → Wrote
-wrote_by (Ok _) n = Bytes n
-wrote_by (Err why) n = No why
-
 -- Q12: the first of these, or the file's length
-unfoldable pub setup_answer : List ℕ → ℕ → Wrote
-setup_answer words room = wrote_by (first_of (setup_cases words room)) (length (setup_of words))
+unfoldable pub setup_answer : List ℕ → ℕ → Result ℕ Refusal
+setup_answer words room = accepted_with (first_of (setup_cases words room)) (length (setup_of words))
 
 abbrev pub filled_by : Answer → List ℕ → List ℕ → List ℕ
 filled_by (Ok _) file out = sets out 0 file

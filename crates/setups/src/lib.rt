@@ -16,20 +16,11 @@ const BEHIND: u16 = 6; // of them behind its length
 
 const STORE: u16 = 1; // its kind
 
-#[derive(Clone, Copy)]
-pub enum Wrote {
-    Refused(Refusal),
-    Bytes(usize), // the file's length
-}
-
 // Whether a word is handed on: it is not 0, and a store reaches it.
 fn handed_on(address: usize, value: u16) -> bool
     ensures { result ≡ handed_on address value }
 {
-    if value == 0 {
-        return false;
-    }
-    !engine_word(address as u64)
+    value != 0 && !engine_word(address as u64)
 }
 
 // How long the file is.
@@ -38,12 +29,10 @@ fn file_length(words: &[u16]) -> usize
     ensures { result ≡ length (setup_of words.now) }
 {
     let mut n = 0;
-    let mut i = 0;
-    while i < words.len() {
-        if handed_on(i, words[i]) {
+    for (address, value) in words.iter().enumerate() {
+        if handed_on(address, *value) {
             n += RECORD;
         }
-        i += 1;
     }
     n
 }
@@ -53,9 +42,7 @@ fn put_word(out: &mut [u8], at: usize, n: u16) -> usize
     requires { at + 2 ≤ length out.old }
     ensures { Written out.old at (word_bytes n) out.new result }
 {
-    out[at] = (n % 256) as u8;
-    out[at + 1] = (n / 256) as u8;
-    at + 2
+    text::put_text(out, at, &n.to_le_bytes())
 }
 
 // L3: a store at a place of `out`. Answers the place behind it.
@@ -87,24 +74,22 @@ fn put_file(words: &[u16], out: &mut [u8]) -> usize
     ensures { Written out.old 0 (setup_of words.now) out.new result }
 {
     let mut place = 0;
-    let mut i = 0;
-    while i < words.len() {
-        place = put_bytes(out, place, i, words[i]);
-        i += 1;
+    for (address, value) in words.iter().enumerate() {
+        place = put_bytes(out, place, address, *value);
     }
     place
 }
 
 // Q12: the setup file of the words at the start of `out`; what stands behind it stays. N5, N10.
-pub fn write_setup(words: &[u16], out: &mut [u8]) -> Wrote
+pub fn write_setup(words: &[u16], out: &mut [u8]) -> Result<usize, Refusal>
     ensures answer { result ≡ setup_answer words.now (length out.old) }
     ensures left { out.new ≡ setup_left words.now out.old }
 {
     if words.len() != WORDS {
-        return Wrote::Refused(Refusal::Memory);
+        return Err(Refusal::Memory);
     }
     if out.len() < file_length(words) {
-        return Wrote::Refused(Refusal::Room);
+        return Err(Refusal::Room);
     }
-    Wrote::Bytes(put_file(words, out))
+    Ok(put_file(words, out))
 }

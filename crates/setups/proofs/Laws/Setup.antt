@@ -2,16 +2,15 @@
 use Rattle.std.specs.Prelude.{ℕ, zero, suc, ◌+◌, ◌*◌, ◌≤◌, ◌<◌, ◌≡◌, refl, Bool, true, false, cond, not, ◌&&◌, List, [], ◌∷◌, ◌++◌, eqb, length, get_or, drop, Ok}
 use Rattle.std.proofs.Common.{arith, add-suc, add-zero, suc-add, add-one, sym, ap, ◌∙◌, append_assoc, length-append, drop_of_length-le, get_or-append-add, drop-cons, le-ltb}
 use Rattle.std.proofs.lemmas.List.Edits.{sets}
-use Rattle.refusals.specs.Refusals.{first_of, Answer, accepted}
+use Rattle.refusals.specs.Refusals.{Answer, accepted, accepted_with, first_of}
 use Rattle.reader.specs.declared.Record.TheVariants.{Store}
 use Rattle.reader.specs.File.{Item, word_at, record_at, records_from, records_of}
 use Rattle.reader.proofs.Laws.File.{whole_at_lem, records_step, records_end}
 use Rattle.desk.specs.Desk.{engine_word}
-use Rattle.setups.specs.declared.Wrote.TheVariants.{Bytes}
-use Rattle.setups.specs.Setup.{word_bytes, store_bytes, handed_on, bytes_of, bytes_from, setup_of, setup_cases, wrote_by, setup_answer, filled_by, setup_left, stores_from}
+use Rattle.setups.specs.Setup.{word_bytes, store_bytes, handed_on, bytes_of, bytes_from, setup_of, setup_cases, setup_answer, filled_by, setup_left, stores_from}
 
 -- the two promises of the call, for its answer a
-pub promised : (file out : List ℕ) {answer a : Answer} → answer ≡ a → (wrote_by a (length file) ≡ wrote_by answer (length file)) × (filled_by a file out ≡ filled_by answer file out)
+pub promised : (file out : List ℕ) {answer a : Answer} → answer ≡ a → (accepted_with a (length file) ≡ accepted_with answer (length file)) × (filled_by a file out ≡ filled_by answer file out)
 promised file out e = (rw e, rw e)
 
 -- ---- the bytes of the words
@@ -111,7 +110,7 @@ setup_short words l = omega (arith, bytes_length 0 words, stores_most words l)
 -- ---- the call where it is accepted
 
 pub setup_fits : (words out : List ℕ) → length words ≡ 1024 → length (setup_of words) ≤ length out
-    → (setup_answer words (length out) ≡ Bytes (length (setup_of words))) × (setup_left words out ≡ sets out 0 (setup_of words))
+    → (setup_answer words (length out) ≡ Ok (length (setup_of words))) × (setup_left words out ≡ sets out 0 (setup_of words))
 unfolding setup_answer setup_left
 setup_fits words out l room =
     let e : first_of (setup_cases words (length out)) ≡ accepted = rw (l, le-ltb (length out) (length (setup_of words)) room) in

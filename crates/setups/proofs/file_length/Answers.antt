@@ -5,23 +5,23 @@ use Rattle.setups.proofs.Laws.Setup.{bytes_few, bytes_none, length_step}
 use Rattle.setups.proofs.file_length.Goals as goal
 use Rattle.setups.proofs.file_length.Goals.{then-handed_on, else-handed_on}
 
-pub loop-i-preserved : goal.loop-i-preserved
-loop-i-preserved c =
-    let l = c.loop-i in
+pub loop-address-preserved : goal.loop-address-preserved
+loop-address-preserved c =
+    let l = c.loop-address in
     let words = c.args.words.now in
     let test = sym c.handed_on.ensures in
-    let added : c.if-handed_on.n ≡ l.n + length (bytes_of l.i (get_or words l.i 0)) =
+    let added : c.if-handed_on.n ≡ l.n + length (bytes_of l.address (get_or words l.address 0)) =
     elim c.if-handed_on.branch [
       | then-handed_on w ↦ rw (test ∙ w.if-handed_on.true) w.n-is
       | else-handed_on w ↦ rw (test ∙ w.if-handed_on.false) (omega (arith, w.n-is))
     ] in
-    let on : l.i < length words = omega arith in
-    (omega arith, omega (arith, bytes_few l.i (get_or words l.i 0)), omega (arith, length_step words l.i on, l.invariant.2))
+    let on : l.address < length words = omega arith in
+    (omega (arith, bytes_few l.address (get_or words l.address 0)), omega (arith, length_step words l.address on, l.invariant.1))
 
 pub returns : goal.returns
 returns c =
-    let l = c.loop-i in
+    let l = c.loop-address in
     let words = c.args.words.now in
-    let all : length words ≤ l.i = omega arith in
-    let none : length (bytes_from l.i (drop l.i words)) ≡ 0 = rw (bytes_none words l.i all) in
-    omega (arith, l.invariant.2)
+    let all : length words ≤ l.address = omega arith in
+    let none : length (bytes_from l.address (drop l.address words)) ≡ 0 = rw (bytes_none words l.address all) in
+    omega (arith, l.invariant.1)

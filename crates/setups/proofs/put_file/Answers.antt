@@ -7,28 +7,28 @@ use Rattle.setups.proofs.put_file.Goals as goal
 
 pub put_bytes-place-requires : goal.put_bytes-place-requires
 put_bytes-place-requires c =
-    let l = c.loop-i in
+    let l = c.loop-address in
     let words = c.args.words.now in
-    let on : l.i < length words = omega arith in
-    (omega arith, omega (arith, length_step words l.i on, l.invariant.2, c.requires))
+    let on : l.address < length words = omega arith in
+    (omega arith, omega (arith, length_step words l.address on, l.invariant.1, c.requires))
 
-pub loop-i-preserved : goal.loop-i-preserved
-loop-i-preserved c =
+pub loop-address-preserved : goal.loop-address-preserved
+loop-address-preserved c =
     let put = c.put_bytes-place in
-    let l = c.loop-i in
+    let l = c.loop-address in
     let a = c.args in
     let words = a.words.now in
-    let own = bytes_of l.i (get_or words l.i 0) in
-    let rest = bytes_from (l.i + 1) (drop (l.i + 1) words) in
-    let on : l.i < length words = omega arith in
+    let own = bytes_of l.address (get_or words l.address 0) in
+    let rest = bytes_from (l.address + 1) (drop (l.address + 1) words) in
+    let on : l.address < length words = omega arith in
     let e = put.ensures in
-    let joined = sets_append l.out l.place own rest ∙ rw (bytes_step words l.i on) at l.invariant.3 in
-    (omega arith, put.auto.out ∙ l.invariant.1, omega (arith, e.place, length_step words l.i on, l.invariant.2), rw (e.buffer, e.place) joined)
+    let joined = sets_append l.out l.place own rest ∙ rw (bytes_step words l.address on) at l.invariant.2 in
+    (put.auto.out ∙ l.invariant.0, omega (arith, e.place, length_step words l.address on, l.invariant.1), rw (e.buffer, e.place) joined)
 
 pub returns : goal.returns
 returns c =
-    let l = c.loop-i in
+    let l = c.loop-address in
     let words = c.args.words.now in
-    let all : length words ≤ l.i = omega arith in
-    let none = bytes_none words l.i all in
-    record { buffer = rw none at l.invariant.3; place = omega (arith, rw none at l.invariant.2) }
+    let all : length words ≤ l.address = omega arith in
+    let none = bytes_none words l.address all in
+    record { buffer = rw none at l.invariant.2; place = omega (arith, rw none at l.invariant.1) }

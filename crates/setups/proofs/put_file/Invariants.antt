@@ -4,10 +4,7 @@ use Rattle.std.proofs.lemmas.List.Edits.{sets}
 use Rattle.setups.specs.Setup.{bytes_from, setup_of}
 use Rattle.setups.proofs.put_file.Given as goal
 
-abbrev pub invariant-loop-i : goal.invariant-loop-i
-invariant-loop-i l =
-    (l.i ≤ length l.words) × (length l.out ≡ length l.initial.out) × (l.place + length (bytes_from l.i (drop l.i l.words)) ≡ length (setup_of l.words))
-    × (sets l.out l.place (bytes_from l.i (drop l.i l.words)) ≡ sets l.initial.out 0 (setup_of l.words))
-
-abbrev pub decreases-loop-i : goal.decreases-loop-i
-decreases-loop-i l = length l.words - l.i
+abbrev pub invariant-loop-address : goal.invariant-loop-address
+invariant-loop-address l =
+    (length l.out ≡ length l.initial.out) × (l.place + length (bytes_from l.address (drop l.address l.words)) ≡ length (setup_of l.words))
+    × (sets l.out l.place (bytes_from l.address (drop l.address l.words)) ≡ sets l.initial.out 0 (setup_of l.words))

@@ -4,9 +4,9 @@ use native.Mathlib.Omega.{arith}
 use mathlib.Core.Path.{◌≡◌, ap, ◌∙◌}
 use lib.ListN.{length}
 use borrow.Author.Tests.{ne_eqb, lt-ltb, le-ltb}
+use Rattle.std.specs.Prelude.{Ok, Err}
 use Rattle.refusals.specs.declared.Refusal.TheVariants.{Memory, Room}
 use Rattle.refusals.specs.Refusals.{first_of, accepted}
-use Rattle.setups.specs.declared.Wrote.TheVariants.{Bytes}
 use Rattle.setups.specs.Setup.{setup_of, setup_cases, setup_answer, setup_left}
 use Rattle.setups.proofs.Laws.Setup.{promised}
 use Rattle.setups.proofs.write_setup.Goals as goal
@@ -43,4 +43,4 @@ returns c =
     let e : first_of (setup_cases words (length out)) ≡ accepted = rw (c.if-words-ne-WORDS.false, enough) in
     let p = promised (setup_of words) out e in
     let size : c.put_file.result ≡ length (setup_of words) = omega (arith, put.place) in
-    record { answer = ap (λ n. Bytes n) size ∙ p.0; left = put.buffer ∙ p.1 }
+    record { answer = ap (λ n. Ok n) size ∙ p.0; left = put.buffer ∙ p.1 }
