@@ -44,38 +44,21 @@ const TIME: usize = 12;
 const MARK: usize = 13;
 
 // H1: the rows of `ranges`: the lowest number of each field, and the highest.
-const LOWS: [i64; FIELDS] = [
-    0, // mode
-    -4503599627370496, // bias
-    0, // output
-    0, // last PV
-    0, // PV before
-    -65535, // error
-    0, // form
-    0, // sampled
-    0, // segment
-    0, // hold
-    0, // complete
-    0, // fraction
-    0, // time
-    0, // mark
-];
-
-const HIGHS: [i64; FIELDS] = [
-    2, // mode
-    4503599627370496, // bias
-    17179607040, // output
-    65535, // last PV
-    65535, // PV before
-    65535, // error
-    1, // form
-    1, // sampled
-    16, // segment
-    1, // hold
-    1, // complete
-    9999, // fraction
-    6000000, // time
-    1, // mark
+const RANGES: [(i64, i64); FIELDS] = [
+    (0, 2), // mode
+    (-4503599627370496, 4503599627370496), // bias
+    (0, 17179607040), // output
+    (0, 65535), // last PV
+    (0, 65535), // PV before
+    (-65535, 65535), // error
+    (0, 1), // form
+    (0, 1), // sampled
+    (0, 16), // segment
+    (0, 1), // hold
+    (0, 1), // complete
+    (0, 9999), // fraction
+    (0, 6000000), // time
+    (0, 1), // mark
 ];
 
 fn mode_number(mode: Mode) -> i64
@@ -100,26 +83,16 @@ fn mode_from(n: i64) -> Mode
     }
 }
 
-// A number is outside its range.
-fn outside(n: i64, low: i64, high: i64) -> bool
-    ensures { result ≡ outside_row (low to high) n }
-{
-    (n < low) | (high < n)
-}
-
-// H5: a number of a record is out of range. The rows are copied: read in place they cost more.
+// H5: a number of a record is out of range.
 pub fn out_of_range(n: [i64; FIELDS]) -> bool
     ensures { result ≡ out_of_range n }
 {
-    let low = LOWS;
-    let high = HIGHS;
-    let mut found = false;
-    let mut i = 0;
-    while i < FIELDS {
-        found = found | outside(n[i], low[i], high[i]);
-        i += 1;
+    for (n, (low, high)) in n.iter().zip(&RANGES) {
+        if *n < *low || *high < *n {
+            return true;
+        }
     }
-    found
+    false
 }
 
 // The profile that numbers in range stand for.
@@ -169,6 +142,7 @@ pub fn record_of(n: [i64; FIELDS]) -> Carried
 }
 
 // A record's numbers, in the order of the layout.
+#[tactic(auto, unfolding(crate::specs::Layout::numbers_of))]
 pub fn numbers_of(c: Carried) -> [i64; FIELDS]
     ensures { result ≡ numbers_of c }
 {
@@ -182,17 +156,17 @@ pub fn numbers_of(c: Carried) -> [i64; FIELDS]
         mode_number(mode),
         bias,
         output,
-        c.past.last as i64,
-        c.past.prior as i64,
+        i64::from(c.past.last),
+        i64::from(c.past.prior),
         error,
-        state.velocity as i64,
-        c.sampled as i64,
-        profile.segment as i64,
-        profile.hold as i64,
-        profile.complete as i64,
-        profile.fraction as i64,
-        profile.time as i64,
-        state.mark as i64,
+        i64::from(state.velocity),
+        i64::from(c.sampled),
+        i64::from(profile.segment),
+        i64::from(profile.hold),
+        i64::from(profile.complete),
+        i64::from(profile.fraction),
+        i64::from(profile.time),
+        i64::from(state.mark),
     ]
 }
 
@@ -200,7 +174,7 @@ pub fn numbers_of(c: Carried) -> [i64; FIELDS]
 pub fn slot_of(k: u8) -> usize
     ensures { result ≡ slot_of k }
 {
-    if k < 1 { 0 } else { FIELDS * (k as usize - 1) }
+    FIELDS * usize::from(k).saturating_sub(1)
 }
 
 // The numbers of the record that starts at a place.
@@ -209,12 +183,7 @@ pub fn numbers_at(numbers: &[i64], at: usize) -> [i64; FIELDS]
     ensures { result ≡ numbers_at numbers.now at }
 {
     let mut found = [0; FIELDS];
-    let mut i = 0;
-    while i < FIELDS {
-        let n = numbers[at + i];
-        found[i] = n;
-        i += 1;
-    }
+    found.copy_from_slice(&numbers[at..at + FIELDS]);
     found
 }
 
@@ -223,12 +192,7 @@ pub fn put_numbers(numbers: &mut [i64], at: usize, fields: [i64; FIELDS])
     requires { at + field_count ≤ length numbers.old }
     ensures { numbers.new ≡ sets numbers.old at fields }
 {
-    let mut i = 0;
-    while i < FIELDS {
-        let n = fields[i];
-        numbers[at + i] = n;
-        i += 1;
-    }
+    numbers[at..at + FIELDS].copy_from_slice(&fields);
 }
 
 // A13: the mark set in the record of loop k.
@@ -236,6 +200,5 @@ pub fn put_mark(numbers: &mut [i64], k: u8)
     requires { slot_of k + field_count ≤ length numbers.old }
     ensures { numbers.new ≡ marked_at numbers.old k }
 {
-    let at = slot_of(k) + MARK;
-    numbers[at] = 1;
+    numbers[slot_of(k) + MARK] = 1;
 }

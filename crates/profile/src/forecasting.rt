@@ -20,7 +20,7 @@ fn count(way: u32, step: u32) -> u64
 
 // The samples of the `left` last segments, of which a ramp is the first and begins at `at`.
 #[cycle(ramps_soaks)]
-#[tactic(auto, using(crate::proofs::Laws::Forecasts::no_ramps, crate::proofs::Laws::Forecasts::ramp_stops, crate::proofs::Laws::Forecasts::ramp_then, crate::proofs::Laws::Forecasts::count_high))]
+#[tactic(auto, using(crate::proofs::Laws::Forecasts::one_segment))]
 fn ramps(table: &[u16], period: u16, at: u32, left: usize) -> u64
     requires { (length table.now ≡ 32) × (left ≤ 16) × (0 < period) }
     ensures equal { result ≡ ramps_from left table.now period at }
@@ -40,7 +40,7 @@ fn ramps(table: &[u16], period: u16, at: u32, left: usize) -> u64
 
 // The same, of which a soak is the first and has lasted `time`; the setpoint stands at `at`.
 #[cycle(ramps_soaks)]
-#[tactic(auto, using(crate::proofs::Laws::Forecasts::no_soaks, crate::proofs::Laws::Forecasts::no_ramps, crate::proofs::Laws::Forecasts::soak_then, crate::proofs::Laws::Forecasts::count_high))]
+#[tactic(auto, using(crate::proofs::Laws::Forecasts::one_segment))]
 fn soaks(table: &[u16], period: u16, at: u32, time: u32, left: usize) -> u64
     requires { (length table.now ≡ 32) × (left ≤ 16) × (0 < period) }
     ensures equal { result ≡ soaks_from left table.now period at time }

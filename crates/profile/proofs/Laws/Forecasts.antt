@@ -72,6 +72,9 @@ module _ (pair : Pair) (table : List ℕ) where
   soak_then zero period at time some read = absurd (not-suc-le-zero some)
   soak_then (suc n) period at time some read = simp (own n read, sub-one (suc n))
 
+-- what `ramps` and `soaks` are proved by
+pub ruleset one_segment = (no_ramps, no_soaks, ramp_stops, ramp_then, soak_then, count_high)
+
 -- ---- the forecast by the present segment
 
 module _ (table : List ℕ) (period : ℕ) (p : Profile) (setpoint : ℕ) where

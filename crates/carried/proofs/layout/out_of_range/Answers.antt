@@ -1,27 +1,21 @@
--- `carried::out_of_range` meets its contract: what was found so far, and the tests of the rows that are left, are those of the record.
-use native.Mathlib.Omega.{arith}
-use mathlib.Core.Path.{◌≡◌, refl, ◌∙◌}
-use mathlib.Core.List.{map}
-use native.Mathlib.Numerals.{add-one}
-use lib.IntN.{ℤ, pos}
-use lib.ListN.{get_or, get_or-map}
-use lib.Seq.{drop-cons}
-use mir.Val.{SFits, to_z, of_z}
-use mir.Syntax.{w64}
-use Rattle.numbers.proofs.Machine.{back}
-use Rattle.carried.specs.Layout.{Range, ◌to◌, ranges, row_of, outside_row, out_of_range}
+-- `carried::out_of_range` meets its contract: at first the numbers stand beside the definition's rows, and each turn takes one of each off.
+use mathlib.Core.Path.{sym}
+use mathlib.Core.Logic.{inl, inr}
 use borrow.Author.Rules.{rules}
+use Rattle.numbers.proofs.Machine.{back}
+use Rattle.carried.proofs.Rows.{is_beside, beside_more, beside_end}
 use Rattle.carried.proofs.layout.out_of_range.Goals as goal
 
-pub loop-i-init : goal.loop-i-init
-unfolding out_of_range
-loop-i-init c = (omega arith, refl, refl, refl)
+pub loop-n-init : goal.loop-n-init
+loop-n-init c =
+    let z = c.zip-n-items.ensures in
+    rw (c.into_iter-n-iterator.ensures.into_iter_gives, z.first, z.second.0, c.iter.ensures.rest) (sym (is_beside c.args.n (search rules)))
 
-pub loop-i-preserved : goal.loop-i-preserved
-loop-i-preserved c =
-    let l = c.loop-i in
-    let n = c.args.n in
-    let end : (f : Range → ℤ) → SFits w64 (get_or (map f ranges) l.i (f (pos 0 to pos 0))) → to_z w64 (of_z w64 (get_or (map f ranges) l.i (f (pos 0 to pos 0)))) ≡ f (row_of l.i) = λ f fits. back fits ∙ get_or-map f ranges l.i (pos 0 to pos 0) in
-    let test : c.outside-found.result ≡ outside_row (row_of l.i) (get_or n l.i (pos 0)) =
-    rw (end Range.low (search rules), end Range.high (search rules), back {z = get_or n l.i (pos 0)} (search rules)) at c.outside-found.ensures in
-    (omega arith, refl, refl, rw (add-one, test) (rw (drop-cons ranges l.i (pos 0 to pos 0) (omega arith)) at l.invariant.3))
+pub loop-n-preserved : goal.loop-n-preserved
+loop-n-preserved c =
+    let low = rw (back {z = c.in-Some.n.now} (search rules), back {z = c.in-Some.field-0-1.now.0} (search rules)) at c.if-n-low.false in
+    let high = rw (back {z = c.in-Some.n.now} (search rules), back {z = c.in-Some.field-0-1.now.1} (search rules)) at c.if-high-n.false in
+    beside_more _ _ _ _ _ _ _ c.in-Some.ensures.steps.0 c.in-Some.ensures.steps.1 low high c.loop-n.invariant
+
+pub returns : goal.returns
+returns c = beside_end _ _ _ (elim c.in-None.ensures.steps [ inl e ↦ inl e.1.0 | inr e ↦ inr e.1.0 ]) c.loop-n.invariant
