@@ -100,15 +100,12 @@ fn profile_of(n: [i64; FIELDS]) -> Profile
     requires { out_of_range n ≡ false }
     ensures { result ≡ profile_from n }
 {
-    let segment = numbers::word_of(n[SEGMENT]);
-    let fraction = numbers::word_of(n[FRACTION]);
-    let time = numbers::to_unsigned(n[TIME]);
     Profile {
-        segment: segment as u8,
+        segment: n[SEGMENT] as u8,
         hold: 0 < n[HOLD],
         complete: 0 < n[COMPLETE],
-        fraction,
-        time: time as u32,
+        fraction: n[FRACTION] as u16,
+        time: n[TIME] as u32,
     }
 }
 
@@ -118,8 +115,6 @@ pub fn record_of(n: [i64; FIELDS]) -> Carried
     ensures { result ≡ record_from n }
 {
     let mode = mode_from(n[MODE]);
-    let last = numbers::word_of(n[LAST_PV]);
-    let prior = numbers::word_of(n[PRIOR_PV]);
     let profile = profile_of(n);
     Carried {
         state: State {
@@ -133,8 +128,8 @@ pub fn record_of(n: [i64; FIELDS]) -> Carried
             output: n[OUTPUT],
         },
         past: Past {
-            last,
-            prior,
+            last: n[LAST_PV] as u16,
+            prior: n[PRIOR_PV] as u16,
             error: n[ERROR],
         },
         sampled: 0 < n[SAMPLED],

@@ -15,4 +15,4 @@ pub use limits::clamp;
 pub use roots::root;
 pub use rounding::{UNITS, half_away, half_up, nearest_count, scaled, units};
 pub use scales::convert;
-pub use signed::{difference, to_unsigned, with_sign, word_of};
+pub use signed::{difference, with_sign};

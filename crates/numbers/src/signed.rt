@@ -1,22 +1,6 @@
 // Signs of numbers, and differences of words.
-ghost use Rattle.std.specs.Prelude.{◌≡◌, ◌^◌, ◌<◌, pos, nat_abs, ◌-ℤ◌, ◌≤ℤ◌};
+ghost use Rattle.std.specs.Prelude.{◌≡◌, ◌^◌, ◌<◌, pos, ◌-ℤ◌};
 ghost use Rattle.numbers.specs.Rounding.{with_sign};
-
-// A signed number that is not negative as an unsigned one.
-pub fn to_unsigned(z: i64) -> u64
-    requires { pos 0 ≤ℤ z }
-    ensures { result ≡ nat_abs z }
-{
-    z as u64
-}
-
-// A signed number that is a word.
-pub fn word_of(z: i64) -> u16
-    requires { (pos 0 ≤ℤ z) × (z ≤ℤ pos 65535) }
-    ensures { result ≡ nat_abs z }
-{
-    z as u16
-}
 
 // The magnitude m with the sign of z.
 pub fn with_sign(z: i64, m: u64) -> i64
