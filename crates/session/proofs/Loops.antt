@@ -7,6 +7,12 @@ use mathlib.Core.List.{List, [], ◌∷◌, ◌++◌}
 use lib.IntN.{ℤ}
 use lib.ListN.{length, set, take, length-append, length-set}
 use lib.Seq.{sets, length-sets}
+use mathlib.Core.Bool.{Bool, true, false}
+use Rattle.std.specs.Prelude.{Result, is_err, replicate}
+use Rattle.std.specs.Int.{from_bool}
+use Rattle.std.specs.Result.{result_unwrap_or}
+use Rattle.refusals.specs.declared.Refusal.{Refusal}
+use Rattle.refusals.specs.Refusals.{number_of}
 use Rattle.text.specs.Text.{Written}
 use Rattle.text.specs.Text.Laws.{sets_append, take_sets}
 use Rattle.reader.specs.File.{Item, records_of}
@@ -15,22 +21,36 @@ use Rattle.desk.specs.Desk.{Desk, lent}
 use Rattle.lines.specs.Lines.{line_text, last_text}
 use Rattle.lines.specs.Widths.{width_of}
 use Rattle.lines.proofs.Widths.{room_of, all_room}
-use Rattle.session.specs.Session.{number_for, left_for, count_of, shown_for, state, begun, after, run_of, answers_for}
-use Rattle.session.specs.Session.Laws.{count_small}
+use Rattle.session.specs.Session.{number_for, left_for, count_of, shown_for, acted_for, answer_in, state, begun, after, run_of, answers_for}
+use Rattle.session.specs.Session.Laws.{answer_acted, shown_acted, count_acted, count_small}
 use Rattle.session.specs.Printed.{lines_of}
 
--- what one turn of a loop computes of a record x: its number, the desk after it, its count
-pub record Turned (x : Item) (ws : List ℕ) (ns : List ℤ) (number : ℕ) (ws' : List ℕ) (ns' : List ℤ) (k : ℕ) : Type 0 where
-  pub number_of_lem : number ≡ number_for (lent ws ns) x
+-- what one turn of a loop computes of a record x: what it comes to, the desk after it, its count
+pub record Turned (x : Item) (ws : List ℕ) (ns : List ℤ) (acted : Result (List ℕ) Refusal) (ws' : List ℕ) (ns' : List ℤ) (k : ℕ) : Type 0 where
+  pub acted_lem : acted ≡ acted_for (lent ws ns) x
   pub left : lent ws' ns' ≡ left_for (lent ws ns) x
-  pub count : k ≡ count_of number
+  pub count : k ≡ from_bool (is_err acted)
 
--- and so the state after it
-turned_state : {x : Item} {ws ws' : List ℕ} {ns ns' : List ℤ} {number k : ℕ} → Turned x ws ns number ws' ns' k → (n m : ℕ)
-    → state ws' ns' (n + 1) (m + k) ≡ after (state ws ns n m) x
-turned_state {x} {ws} {ws'} {ns} {ns'} {number} {k} t n m =
-    ap (λ (d : Desk). record { desk = d; count = n + 1; refused = m + k }) t.left
-    ∙ ap (λ (i : ℕ). record { desk = left_for (lent ws ns) x; count = n + 1; refused = m + i }) (t.count ∙ ap count_of t.number_of_lem)
+module _ {x : Item} {ws ws' : List ℕ} {ns ns' : List ℤ} {acted : Result (List ℕ) Refusal} {k : ℕ} (t : Turned x ws ns acted ws' ns' k) where
+  -- and so its number, what is shown, and the state after it
+  turned_number : number_of (answer_in acted) ≡ number_for (lent ws ns) x
+  turned_number = ap (λ a. number_of (answer_in a)) t.acted_lem ∙ ap number_of (answer_acted (lent ws ns) x)
+
+  turned_shown : result_unwrap_or acted (replicate 4 0) ≡ shown_for (lent ws ns) x
+  turned_shown = ap (λ a. result_unwrap_or a (replicate 4 0)) t.acted_lem ∙ shown_acted (lent ws ns) x
+
+  turned_count : k ≡ count_of (number_for (lent ws ns) x)
+  turned_count = t.count ∙ (count_acted acted ∙ ap count_of turned_number)
+
+  turned_state : (n m : ℕ) → state ws' ns' (n + 1) (m + k) ≡ after (state ws ns n m) x
+  turned_state n m =
+      ap (λ (d : Desk). record { desk = d; count = n + 1; refused = m + k }) t.left
+      ∙ ap (λ (i : ℕ). record { desk = left_for (lent ws ns) x; count = n + 1; refused = m + i }) turned_count
+
+-- a test as a number
+pub counts : (b : Bool) {k : ℕ} → k ≡ from_bool b → k ≤ 1
+counts true e = omega (arith, e)
+counts false e = omega (arith, e)
 
 -- what a buffer holds of a text written to its start, and that there are that many bytes
 pub printed : {o t o' : List ℕ} {r : ℕ} → Written o 0 t o' r → r ≤ length o
@@ -54,13 +74,13 @@ module _ (s ws₀ : List ℕ) (ns₀ : List ℤ) where
   pub start : {xs : List Item} → xs ≡ records_of s → Going ws₀ ns₀ 0 0 xs
   start e = rw e (record { all = omega arith; fewer = omega arith; left = refl })
 
-  pub turn : {ws ws' : List ℕ} {ns ns' : List ℤ} {n m k number : ℕ} {x : Item} {xs rest : List Item} → Going ws ns n m xs
-      → xs ≡ x ∷ rest → Turned x ws ns number ws' ns' k → Going ws' ns' (n + 1) (m + k) rest
+  pub turn : {ws ws' : List ℕ} {ns ns' : List ℤ} {n m k : ℕ} {acted : Result (List ℕ) Refusal} {x : Item} {xs rest : List Item} → Going ws ns n m xs
+      → xs ≡ x ∷ rest → Turned x ws ns acted ws' ns' k → Going ws' ns' (n + 1) (m + k) rest
   unfolding run_of
-  turn {n = n} {m = m} {number = number} g e t =
+  turn {ws} {ns = ns} {n = n} {m = m} {x = x} g e t =
       record {
         all = omega (arith, rw e at g.all);
-        fewer = omega (arith, g.fewer, t.count, count_small number);
+        fewer = omega (arith, g.fewer, turned_count t, count_small (number_for (lent ws ns) x));
         left = rw (turned_state t n m) (rw e at g.left);
       }
 
@@ -84,14 +104,14 @@ module _ (s ws₀ : List ℕ) (ns₀ : List ℤ) where
     pub start_answering : {xs : List Item} → xs ≡ records_of s → Answering ws₀ ns₀ 0 0 xs a₀
     start_answering e = record { going = start e; same = refl; kept = rw e refl }
 
-    pub answer : {ws ws' : List ℕ} {ns ns' : List ℤ} {n m k number : ℕ} {x : Item} {xs rest : List Item} {a a' : List ℕ}
-        → Answering ws ns n m xs a → xs ≡ x ∷ rest → Turned x ws ns number ws' ns' k → a' ≡ set a n number
+    pub answer : {ws ws' : List ℕ} {ns ns' : List ℤ} {n m k : ℕ} {acted : Result (List ℕ) Refusal} {x : Item} {xs rest : List Item} {a a' : List ℕ}
+        → Answering ws ns n m xs a → xs ≡ x ∷ rest → Turned x ws ns acted ws' ns' k → a' ≡ set a n (number_of (answer_in acted))
         → Answering ws' ns' (n + 1) (m + k) rest a'
     unfolding answers_for
-    answer {n = n} {number = number} {a = a} g e t w = record {
+    answer {n = n} {acted = acted} {a = a} g e t w = record {
       going = turn g.going e t;
-      same = rw w (length-set a n number ∙ g.same);
-      kept = rw (w, t.left, t.number_of_lem) (simp unary_clauses (rw e at g.kept));
+      same = rw w (length-set a n (number_of (answer_in acted)) ∙ g.same);
+      kept = rw (w, t.left, turned_number t) (simp unary_clauses (rw e at g.kept));
     }
 
     pub end_answering : {ws : List ℕ} {ns : List ℤ} {n m : ℕ} {xs : List Item} {a : List ℕ} → Answering ws ns n m xs a → xs ≡ []
@@ -112,15 +132,15 @@ module _ (s ws₀ : List ℕ) (ns₀ : List ℤ) where
     pub start_telling : {xs : List Item} → xs ≡ records_of s → Telling ws₀ ns₀ 0 0 xs o₀ 0
     start_telling e = record { going = start e; most = rw e (omega (arith, all_room s)); same = refl; told = rw e refl; ends = rw e (omega arith) }
 
-    pub tell : {ws ws' : List ℕ} {ns ns' : List ℤ} {n m k number : ℕ} {x : Item} {xs rest : List Item} {shown o o' : List ℕ} {p p' : ℕ}
-        → Telling ws ns n m xs o p → xs ≡ x ∷ rest → Turned x ws ns number ws' ns' k
-        → shown ≡ shown_for (lent ws ns) x → Written o p (line_text (n + 1) x number shown) o' p'
+    pub tell : {ws ws' : List ℕ} {ns ns' : List ℤ} {n m k : ℕ} {acted : Result (List ℕ) Refusal} {x : Item} {xs rest : List Item} {o o' : List ℕ} {p p' : ℕ}
+        → Telling ws ns n m xs o p → xs ≡ x ∷ rest → Turned x ws ns acted ws' ns' k
+        → Written o p (line_text (n + 1) x (number_of (answer_in acted)) (result_unwrap_or acted (replicate 4 0))) o' p'
         → p' ≤ p + (6 + width_of x) → Telling ws' ns' (n + 1) (m + k) rest o' p'
     unfolding lines_of room_of
-    tell {ws} {ws'} {ns} {ns'} {n} {m} {k} {number} {x} {xs} {rest} {shown} {o} {o'} {p} {p'} g e t v w b =
-        let line : List ℕ = line_text (n + 1) x number shown in
+    tell {ws} {ws'} {ns} {ns'} {n} {m} {k} {acted} {x} {xs} {rest} {o} {o'} {p} {p'} g e t w b =
+        let line : List ℕ = line_text (n + 1) x (number_of (answer_in acted)) (result_unwrap_or acted (replicate 4 0)) in
         let more : List ℕ = lines_of (state ws' ns' (n + 1) (m + k)) rest in
-        let all : lines_of (state ws ns n m) xs ≡ line ++ more = rw e (rw (turned_state t n m, v, t.number_of_lem)) in
+        let all : lines_of (state ws ns n m) xs ≡ line ++ more = rw e (rw (turned_state t n m, turned_number t, turned_shown t)) in
         record {
           going = turn g.going e t;
           most = omega (arith, b, rw e at g.most);

@@ -3,14 +3,12 @@ use Rattle.desk.specs.declared.sampling.Line.{Line}
 use Rattle.std.specs.Prelude.{ℕ, ◌+◌, cond, List, [], ◌∷◌, replicate, eqb, ℤ, Err, Result, Ok}
 use Rattle.refusals.specs.declared.Refusal.{Refusal}
 use Rattle.refusals.specs.declared.Refusal.TheVariants.{Memory}
-use Rattle.refusals.specs.Refusals.{number_of, Answer}
+use Rattle.refusals.specs.Refusals.{number_of, Answer, accepted, accepted_with}
 use Rattle.reader.specs.declared.Record.TheVariants.{Store, Sample}
 use Rattle.reader.specs.File.{Item, records_of}
-use Rattle.desk.specs.Desk.{Desk, lent, fitting_of, answer_shown, sampled_at}
+use Rattle.desk.specs.Desk.{Desk, lent, fitting_of, words_of, sampled_at}
 use Rattle.desk.specs.Lists.{Call, store, sample, answer_to, desk_after}
-use Rattle.session.specs.declared.turn.Acted.{Acted}
-use Rattle.session.specs.declared.running.Ended.{Ended}
-use Rattle.session.specs.declared.running.Ended.TheVariants.{Counts, Stopped}
+use Rattle.session.specs.declared.running.Totals.{Totals}
 pub mod Laws
 
 -- ---- one record
@@ -38,7 +36,7 @@ count_of number = cond (eqb number 0) 0 1
 
 -- L9: what is shown of the loop of a sample that is carried out
 abbrev pub shown_of : Result Line Refusal → List ℕ
-shown_of (Ok l) = l.setpoint ∷ l.pv ∷ l.output ∷ l.status ∷ []
+shown_of (Ok l) = words_of l
 shown_of (Err why) = replicate 4 0
 
 abbrev pub shown_for : Desk → Item → List ℕ
@@ -46,12 +44,14 @@ shown_for d (Ok (Store address value)) = replicate 4 0
 shown_for d (Ok (Sample k raw)) = shown_of (sampled_at d k raw)
 shown_for d (Err why) = replicate 4 0
 
--- Q5, L9: both
-abbrev pub acted_for : Desk → Item → Acted
-acted_for d x = record { number = number_for d x; line = shown_for d x }
+-- Q5, L9: what is shown of a record that is carried out, or why it is refused
+abbrev pub acted_for : Desk → Item → Result (List ℕ) Refusal
+acted_for d x = accepted_with (answer_for d x) (shown_for d x)
 
-abbrev pub acted_by : Result Line Refusal → Acted
-acted_by s = record { number = number_of (answer_shown s); line = shown_of s }
+-- and the answer in that
+abbrev pub answer_in : Result (List ℕ) Refusal → Answer
+answer_in (Ok line) = accepted
+answer_in (Err why) = Err why
 
 -- ---- a list of records
 
@@ -98,9 +98,12 @@ calls_of (x ∷ xs) = by_call (λ call. call ∷ calls_of xs) (λ why. calls_of 
 
 -- ---- a file
 
+abbrev pub totals : ℕ → ℕ → Totals
+totals count refused = record { count = count; refused = refused }
+
 -- Q5, O1: where the memory does not have its lengths, stopped by N5; else the counts
-unfoldable pub ended_of : List ℕ → Desk → Ended
-ended_of file d = let t = run_of (begun d) (records_of file) in cond (fitting_of d) (Counts t.count t.refused) (Stopped Memory)
+unfoldable pub ended_of : List ℕ → Desk → Result Totals Refusal
+ended_of file d = let t = run_of (begun d) (records_of file) in cond (fitting_of d) (Ok (totals t.count t.refused)) (Err Memory)
 
 -- Q5, Q8: the desk after the file
 unfoldable pub left_of : List ℕ → Desk → Desk

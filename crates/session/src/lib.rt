@@ -6,4 +6,4 @@ mod running;
 mod turn;
 
 pub use printing::{LONGEST, drill, input_buffer, output_buffer};
-pub use running::{Ended, run};
+pub use running::{Totals, run};

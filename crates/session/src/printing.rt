@@ -6,7 +6,7 @@ ghost use Rattle.desk.specs.Desk.{lent};
 ghost use Rattle.session.specs.Session.{begun};
 ghost use Rattle.session.specs.Printed.{lines_of, too_long_line, with_room, printed_within};
 
-use crate::turn::{act, refusals_in};
+use crate::turn::{act, number_in};
 use desk::{NUMBERS, WORDS};
 use lines::{put_last, put_line};
 
@@ -28,10 +28,9 @@ fn transcript(file: &[u8], words: &mut [u16], numbers: &mut [i64], out: &mut [u8
     let mut place = 0;
     for item in reader::read_records(file) {
         let acted = act(item, words, numbers);
-        let line = acted.line;
         count += 1;
-        refused += refusals_in(acted.number);
-        place = put_line(out, place, count, item, acted.number, line);
+        refused += usize::from(acted.is_err());
+        place = put_line(out, place, count, item, number_in(acted), acted.unwrap_or([0; 4]));
     }
     put_last(out, place, count, refused)
 }
@@ -60,9 +59,8 @@ pub fn drill(input: &[u8], out: &mut [u8]) -> usize
     if out.len() < 10 * input.len() + 100 {
         return 0;
     }
-    let mut words = [0u16; WORDS];
+    let mut words = [0u16; WORDS]; // H3: all are 0, as after a reset
     let mut numbers = [0i64; NUMBERS];
-    desk::reset(&mut words, &mut numbers);
     transcript(input, &mut words, &mut numbers, out)
 }
 

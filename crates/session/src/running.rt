@@ -5,18 +5,11 @@ ghost use Rattle.reader.specs.File.{records_of};
 ghost use Rattle.desk.specs.Desk.{lent};
 ghost use Rattle.session.specs.Session.{state, begun, run_of, answers_for, ended_of, left_of, answers_of};
 
-use crate::turn::{act, refusals_in};
+use crate::turn::{act, number_in};
 use refusals::Refusal;
 
-// How a run ended: how many records were read, and how many of them refused; or the refusal that
-// ended it before anything was read.
-#[derive(Clone, Copy)]
-pub enum Ended {
-    Counts(usize, usize),
-    Stopped(Refusal),
-}
-
-#[derive(Clone, Copy)]
+// How many records were read, and how many of them refused.
+#[derive(Clone, Copy, Debug, PartialEq, Eq)]
 pub struct Totals {
     pub count: usize,
     pub refused: usize,
@@ -40,9 +33,9 @@ fn carry_all(file: &[u8], words: &mut [u16], numbers: &mut [i64], answers: &mut 
     let mut refused = 0;
     for item in reader::read_records(file) {
         let acted = act(item, words, numbers);
-        keep(answers, count, acted.number);
+        keep(answers, count, number_in(acted));
         count += 1;
-        refused += refusals_in(acted.number);
+        refused += usize::from(acted.is_err());
     }
     Totals { count, refused }
 }
@@ -50,14 +43,18 @@ fn carry_all(file: &[u8], words: &mut [u16], numbers: &mut [i64], answers: &mut 
 // Q5: a file of any length. Where the memory does not have its lengths, nothing is read or written. Else
 // the answer to each record, 0 or its number of refusal, goes into `answers` in order, as far as there
 // is room.
-pub fn run(file: &[u8], words: &mut [u16], numbers: &mut [i64], answers: &mut [u8]) -> Ended
+pub fn run(
+    file: &[u8],
+    words: &mut [u16],
+    numbers: &mut [i64],
+    answers: &mut [u8],
+) -> Result<Totals, Refusal>
     ensures ended { result ≡ ended_of file.now (lent words.old numbers.old) }
     ensures left { lent words.new numbers.new ≡ left_of file.now (lent words.old numbers.old) }
     ensures answers { answers.new ≡ sets answers.old 0 (answers_of file.now (lent words.old numbers.old)) }
 {
     if !desk::fitting(words, numbers) {
-        return Ended::Stopped(Refusal::Memory);
+        return Err(Refusal::Memory);
     }
-    let all = carry_all(file, words, numbers, answers);
-    Ended::Counts(all.count, all.refused)
+    Ok(carry_all(file, words, numbers, answers))
 }

@@ -1,57 +1,37 @@
 // One record of a drill file carried out on the desk (O2).
 ghost use Rattle.std.specs.Prelude.{◌≡◌};
 ghost use Rattle.desk.specs.Desk.{lent};
-ghost use Rattle.session.specs.Session.{left_for, acted_for, acted_by, count_of};
+ghost use Rattle.refusals.specs.Refusals.{number_of};
+ghost use Rattle.session.specs.Session.{left_for, acted_for, answer_in};
 
-use desk::Line;
 use reader::Record;
-use refusals::{Refusal, number_of};
+use refusals::Refusal;
 
-// The number of its answer, 0 where it was carried out, else that of the refusal; and of such a sample what is shown.
-#[derive(Clone, Copy)]
-pub struct Acted {
-    pub number: u8,
-    pub line: [u16; 4],
-}
-
-fn shown(sampled: Result<Line, Refusal>) -> Acted
-    ensures { result ≡ acted_by sampled }
-{
-    match sampled {
-        Err(why) => Acted {
-            number: number_of(Err(why)),
-            line: [0; 4],
-        },
-        Ok(l) => Acted {
-            number: 0,
-            line: [l.setpoint, l.pv, l.output, l.status],
-        },
-    }
-}
-
-#[tactic(auto, using(desk::proofs::Laws::Desk::answer_shown_lem), unfolding(desk::specs::Lists::answer_to, desk::specs::Lists::desk_after))]
-pub(crate) fn act(item: Result<Record, Refusal>, words: &mut [u16], numbers: &mut [i64]) -> Acted
+// What is shown of the loop of a sample that is carried out, and four zeros of a store; or why the record is refused.
+#[tactic(auto, using(crate::specs::Session::Laws::sample_shown, crate::specs::Session::Laws::sample_refused), unfolding(desk::specs::Lists::answer_to, desk::specs::Lists::desk_after))]
+pub(crate) fn act(
+    item: Result<Record, Refusal>,
+    words: &mut [u16],
+    numbers: &mut [i64],
+) -> Result<[u16; 4], Refusal>
     ensures acted { result ≡ acted_for (lent words.old numbers.old) item }
     ensures left { lent words.new numbers.new ≡ left_for (lent words.old numbers.old) item }
 {
-    match item {
-        Ok(Record::Store(address, value)) => Acted {
-            number: number_of(desk::store(words, numbers, address as u64, value)),
-            line: [0; 4],
-        },
-        Ok(Record::Sample(number, raw)) => {
-            shown(desk::sample(words, numbers, number as u64, raw as u64))
+    match item? {
+        Record::Store(address, value) => {
+            desk::store(words, numbers, address as u64, value)?;
+            Ok([0; 4])
         }
-        Err(why) => Acted {
-            number: number_of(Err(why)),
-            line: [0; 4],
-        },
+        Record::Sample(number, raw) => {
+            let line = desk::sample(words, numbers, number as u64, raw as u64)?;
+            Ok(line.into())
+        }
     }
 }
 
-// How many refusals a number counts for.
-pub(crate) fn refusals_in(number: u8) -> usize
-    ensures { result ≡ count_of number }
+// The number of its answer, 0 where it was carried out, else that of the refusal.
+pub(crate) fn number_in(acted: Result<[u16; 4], Refusal>) -> u8
+    ensures { result ≡ number_of (answer_in acted) }
 {
-    if number == 0 { 0 } else { 1 }
+    refusals::number_of(acted.map(|_| ()))
 }

@@ -1,8 +1,8 @@
 -- `session::drill` meets its contract: each branch is the case of `printed_within` that its tests pick. The desk is fresh from a reset.
 use native.Mathlib.Omega.{arith}
-use mathlib.Core.Path.{refl, ◌∙◌}
+use mathlib.Core.Path.{refl}
 use borrow.Author.Tests.{lt-ltb, le-ltb}
-use Rattle.desk.proofs.Laws.Desk.{reset_fresh}
+use Rattle.desk.specs.Desk.{reset_desk}
 use Rattle.session.specs.Printed.{printed_of, printed_within}
 use Rattle.session.proofs.Loops.{printed}
 use Rattle.session.proofs.printing.drill.Goals as goal
@@ -20,9 +20,8 @@ returns-then-out-input c =
     (record { printed = refl; room = (omega arith, refl); rest = record { buffer = refl; place = refl } })
 
 pub returns : goal.returns
-unfolding printed_within printed_of
+unfolding printed_within printed_of reset_desk
 returns c =
-    let w = rw (c.reset.ensures.left ∙ reset_fresh) at c.transcript.ensures.written in
-    let p = printed w (omega (arith, c.transcript.ensures.upper_bound, c.if-out-input.false)) in
+    let p = printed c.transcript.ensures.written (omega (arith, c.transcript.ensures.upper_bound, c.if-out-input.false)) in
     rw (le-ltb 65536 _ c.if-input-gt-LONGEST.false, le-ltb _ _ c.if-out-input.false)
     (record { printed = p.0; room = p.1.0; rest = p.1.1 })

@@ -3,9 +3,7 @@ use native.Mathlib.Omega.{arith}
 use mathlib.Core.Path.{refl, ap, ◌∙◌}
 use lib.ListN.{length}
 use Rattle.reader.specs.File.{records_left}
-use Rattle.session.specs.declared.turn.Acted.{Acted}
-use Rattle.session.specs.Session.Laws.{count_small}
-use Rattle.session.proofs.Loops.{few, start_telling, tell, end_telling}
+use Rattle.session.proofs.Loops.{counts, few, start_telling, tell, end_telling}
 use Rattle.session.proofs.printing.transcript.Goals as goal
 
 pub loop-item-init : goal.loop-item-init
@@ -15,7 +13,7 @@ pub overflow_add-count : goal.overflow_add-count
 overflow_add-count c = omega (arith, few _ _ _ c.loop-item.invariant.1.1.0.going)
 
 pub overflow_add-refused : goal.overflow_add-refused
-overflow_add-refused c = omega (arith, few _ _ _ c.loop-item.invariant.1.1.0.going, c.loop-item.invariant.1.1.0.going.fewer, c.refusals_in-refused.ensures, count_small c.act-acted.result.number)
+overflow_add-refused c = omega (arith, few _ _ _ c.loop-item.invariant.1.1.0.going, c.loop-item.invariant.1.1.0.going.fewer, counts c.is_err.result c.from-refused.ensures)
 
 pub put_line-place-requires : goal.put_line-place-requires
 put_line-place-requires c = let i = c.loop-item.invariant.1.1.0 in omega (arith, few _ _ _ i.going, i.going.all, i.most, i.same, c.requires, ap length c.in-Some.ensures.steps)
@@ -29,8 +27,7 @@ loop-item-preserved c =
         tt,
         (
           tell _ _ _ _ i.0 c.in-Some.ensures.steps
-              (record { number_of_lem = ap (λ (x : Acted). x.number) a.ensures.acted; left = a.ensures.left; count = c.refusals_in-refused.ensures })
-              (ap (λ (x : Acted). x.line) a.ensures.acted) c.put_line-place.ensures.written c.put_line-place.ensures.upper_bound,
+              (record { acted_lem = a.ensures.acted; left = a.ensures.left; count = rw (← c.is_err.ensures.value) c.from-refused.ensures }) (rw (← c.number_in.ensures, ← c.unwrap_or.ensures) c.put_line-place.ensures.written) c.put_line-place.ensures.upper_bound,
           (a.auto.words ∙ i.1.0, a.auto.numbers ∙ i.1.1),
         ),
       ),

@@ -1,16 +1,14 @@
 -- `session::carry_all` meets its contract: the records left lead from the state reached to where all records lead.
 use native.Mathlib.Omega.{arith}
 use mathlib.Core.Path.{ap, ◌∙◌}
-use Rattle.session.specs.declared.turn.Acted.{Acted}
-use Rattle.session.specs.Session.Laws.{count_small}
-use Rattle.session.proofs.Loops.{few, end, answer, end_answering}
+use Rattle.session.proofs.Loops.{counts, few, end, answer, end_answering}
 use Rattle.session.proofs.running.carry_all.Goals as goal
 
 pub overflow_add-count : goal.overflow_add-count
 overflow_add-count c = omega (arith, few _ _ _ c.loop-item.invariant.1.1.0.going)
 
 pub overflow_add-refused : goal.overflow_add-refused
-overflow_add-refused c = omega (arith, few _ _ _ c.loop-item.invariant.1.1.0.going, c.loop-item.invariant.1.1.0.going.fewer, c.refusals_in-refused.ensures, count_small c.act-acted.result.number)
+overflow_add-refused c = omega (arith, few _ _ _ c.loop-item.invariant.1.1.0.going, c.loop-item.invariant.1.1.0.going.fewer, counts c.is_err.result c.from-refused.ensures)
 
 pub loop-item-preserved : goal.loop-item-preserved
 loop-item-preserved c =
@@ -21,7 +19,7 @@ loop-item-preserved c =
         tt,
         (
           answer _ _ _ _ i.0 c.in-Some.ensures.steps
-              (record { number_of_lem = ap (λ (x : Acted). x.number) a.ensures.acted; left = a.ensures.left; count = c.refusals_in-refused.ensures }) c.keep.ensures,
+              (record { acted_lem = a.ensures.acted; left = a.ensures.left; count = rw (← c.is_err.ensures.value) c.from-refused.ensures }) (c.keep.ensures ∙ rw c.number_in.ensures),
           (a.auto.words ∙ i.1.0, a.auto.numbers ∙ i.1.1),
         ),
       ),
