@@ -43,63 +43,47 @@ fn standard_input<I: Read, E: Write>(
 }
 
 // std opens a file by a text, so a name that is none cannot be opened.
-fn open<R: Files>(rt: &R, name: &[u8]) -> io::Result<R::File> {
-    match std::str::from_utf8(name) {
-        Ok(path) => File::open(rt, path),
-        Err(_) => Err(io::Error::from_raw_os_error(NO_TEXT)),
-    }
-}
-
 fn read_file<R: Files>(rt: &R, name: &[u8], input: &mut [u8]) -> io::Result<usize>
     ensures { IfOk result (λ n. IsPrefixLen n input.new) }
 {
-    let mut file = open(rt, name)?;
+    let path = str::from_utf8(name).map_err(|_| io::Error::from_raw_os_error(NO_TEXT))?;
+    let mut file = File::open(rt, path)?;
     Ok(streams::read_whole(&mut file, input)?)
-}
-
-fn file<R: Files, E: Write>(
-    rt: &R,
-    teller: &mut Teller<'_, E>,
-    name: &mut [u8],
-    input: &mut [u8],
-) -> Asked
-    requires { length name.old ≤ 4095 }
-    ensures { IsStartOf result input.new }
-{
-    match read_file(rt, name, input) {
-        Ok(count) => Asked::File(count),
-        Err(error) => {
-            hide_controls(name);
-            teller.tell(name, &error);
-            Asked::Nothing
-        }
-    }
 }
 
 fn asks_help(name: &[u8]) -> bool
     ensures { IsTrue result ↔ (name.now ≡ bytes "--help") }
 {
-    let help: &[u8] = b"--help";
-    name == help
+    name == b"--help".as_slice()
 }
 
 // What the system says of an argument that is not there, or is no file's name.
 fn no_name(error: FillError) -> io::Error {
-    match error {
-        FillError::NotPresent => io::Error::from_raw_os_error(MISSING),
-        FillError::TooLong => io::Error::from_raw_os_error(TOO_LONG),
-    }
+    io::Error::from_raw_os_error(match error {
+        FillError::NotPresent => MISSING,
+        FillError::TooLong => TOO_LONG,
+    })
 }
 
 fn argument<R: Env + Files, E: Write>(rt: &R, teller: &mut Teller<'_, E>, input: &mut [u8]) -> Asked
     ensures { IsStartOf result input.new }
 {
-    let mut name = [0u8; LONGEST_NAME];
-    match rt.arg(1, &mut name) {
-        Ok(n) if asks_help(&name[..n]) => Asked::Help,
-        Ok(n) => file(rt, teller, &mut name[..n], input),
+    let mut buffer = [0u8; LONGEST_NAME];
+    let name = match rt.arg(1, &mut buffer) {
+        Ok(n) => &mut buffer[..n],
         Err(error) => {
             teller.tell(b"the file's name", &no_name(error));
+            return Asked::Nothing;
+        }
+    };
+    if asks_help(name) {
+        return Asked::Help;
+    }
+    match read_file(rt, name, input) {
+        Ok(count) => Asked::File(count),
+        Err(error) => {
+            hide_controls(name);
+            teller.tell(name, &error);
             Asked::Nothing
         }
     }

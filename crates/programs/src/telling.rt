@@ -18,6 +18,8 @@ const TOLD: usize = LONGEST_NAME + 10; // a file's name behind a program's of up
 
 const LINE: usize = TOLD + REASON + 3; // a colon, a space and a line feed
 
+// A line is put together as bytes and their count (no heap): a file's name may be no text, which std's `InlineString` holds alone.
+
 // `PROGRAM: WHAT` at the start of a line. Answers how many bytes these are.
 fn put_told(line: &mut [u8], program: &[u8], what: &[u8]) -> usize
     requires { length program.now + 2 + length what.now ≤ length line.old }
