@@ -5,12 +5,13 @@ ghost use Rattle.carried.specs.Former.{former_of};
 use crate::record::State;
 use reading::Former;
 
-pub fn former_of(state: State) -> Former
-    ensures { result ≡ former_of state }
-{
-    let mode = state.mode;
-    Former {
-        mode,
-        segment: state.profile.segment,
+impl From<State> for Former {
+    ghost from_gives = { λ state former. former ≡ former_of state };
+
+    fn from(state: State) -> Former {
+        Former {
+            mode: state.mode,
+            segment: state.profile.segment,
+        }
     }
 }

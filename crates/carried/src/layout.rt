@@ -1,5 +1,5 @@
 // A carried record as numbers of 64 bits (H1), and its place in the lent buffer (H4). A new field is a place, a row of
-// `LOWS` and `HIGHS` and a line of `record_of` and `numbers_of`; in the definitions a row of `ranges` and a line of
+// `RANGES` and a line of `record_of` and `numbers_of`; in the definitions a row of `ranges` and a line of
 // `numbers_of` and `record_from`.
 ghost use Rattle.std.specs.Prelude.{◌≡◌, false, ◌+◌, ◌≤◌, pos, length};
 ghost use Rattle.std.proofs.lemmas.List.Edits.{sets};
@@ -74,12 +74,10 @@ fn mode_number(mode: Mode) -> i64
 fn mode_from(n: i64) -> Mode
     ensures { result ≡ mode_from n }
 {
-    if n < 1 {
-        Mode::Manual
-    } else if n < 2 {
-        Mode::Automatic
-    } else {
-        Mode::Cascade
+    match n {
+        ..=0 => Mode::Manual,
+        1 => Mode::Automatic,
+        _ => Mode::Cascade,
     }
 }
 

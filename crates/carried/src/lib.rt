@@ -6,7 +6,6 @@ mod former;
 mod layout;
 mod record;
 
-pub use former::former_of;
 pub use layout::{
     FIELDS, NUMBERS, numbers_at, numbers_of, out_of_range, put_mark, put_numbers, record_of,
     slot_of,

@@ -4,10 +4,10 @@ ghost use Rattle.std.specs.Prelude.{◌≡◌, ◌≤◌};
 ghost use Rattle.desk.specs.Desk.{lent, admission_of, admission_at};
 
 use crate::memory::{fitting, known_loop};
-use carried::{Carried, former_of, numbers_at, record_of, slot_of};
+use carried::{Carried, numbers_at, record_of, slot_of};
 use judging::{bad_major, judge};
 use measuring::measure;
-use reading::{Reading, read_loop};
+use reading::{Former, Reading, read_loop};
 use refusals::Refusal;
 
 // The loop's record, what was read of the words, and the PV.
@@ -50,6 +50,6 @@ pub(crate) fn admit(
     known_loop(numbers, number)?;
     let k = number as u8;
     let carried = record_of(numbers_at(numbers, slot_of(k)));
-    let reading = read_loop(words, k, former_of(carried.state));
+    let reading = read_loop(words, k, Former::from(carried.state));
     admit_read(reading, carried, raw)
 }

@@ -58,7 +58,7 @@ read_loop-reading-requires c =
     let k = c.args.number in
     let size = (sound (lent c.args.words.now ns) (sym c.fitting.ensures ∙ c.if-not-fitting.false)).words in
     let l = loop ns k c.known_loop.ensures c.in_ok-known_loop.was in
-    let former : c.former_of.result ≡ former_of (carried_at ns k).state = cc in
+    let former : c.from.result ≡ former_of (carried_at ns k).state = cc in
     (omega (arith, size, l.below), omega (arith, size), rw former (ranged (numbers_at ns (slot_of k)) l.range).profile.segment)
 
 -- what is read is the loop's, and so is what is judged of it
@@ -69,7 +69,7 @@ returns c =
     let k = c.args.number in
     let raw = c.args.raw in
     let carried : c.record_of-carried.result ≡ carried_at d.numbers k = cc in
-    let former : c.former_of.result ≡ former_of (carried_at d.numbers k).state = cc in
+    let former : c.from.result ≡ former_of (carried_at d.numbers k).state = cc in
     let reading : c.read_loop-reading.result ≡ reading_at d k = c.read_loop-reading.ensures ∙ ap (λ (f : Former). reading_of d.words k f) former in
     let answer : sample_answer d k raw ≡ first_of (reading_cases (reading_at d k) raw)
     = past_loop d k raw (sym c.fitting.ensures ∙ c.if-not-fitting.false) (sym c.known_loop.ensures ∙ c.in_ok-known_loop.was) in
