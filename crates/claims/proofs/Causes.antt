@@ -16,9 +16,8 @@ use Rattle.numbers.proofs.Laws.Roots.{root_exact}
 use Rattle.refusals.specs.Decides.{Decides, in_words, so, not_so, is_true, is_false, is_less, is_same, is_not, is_or, is_both}
 use Rattle.refusals.specs.Refusals.{number_of, OneOf, FirstIn}
 use Rattle.refusals.specs.Refusals.Laws.{Tests, done, tests, first_reported, first_alone}
-use Rattle.reader.specs.declared.Record.{Record}
 use Rattle.reader.specs.declared.Record.TheVariants.{Sample}
-use Rattle.reader.specs.File.{records_of}
+use Rattle.reader.specs.File.{Item, records_of}
 use Rattle.table.specs.Words.{bit, bcd, bad_digit, any, any_after, base_of, block_at}
 use Rattle.table.specs.Words.Laws.{block_at_lem}
 use Rattle.table.specs.declared.mode.Mode.{Mode}
@@ -335,19 +334,19 @@ module _ (d : Desk) (k raw : ℕ) where
   first = first_reported (sample_cases d k raw) (sample_rows d k raw) tested
 
 -- the answer to a record is that of the desk as the records before left it
-pub answer_at : (t : State) (before : List Record) (x : Record) (after : List Record)
+pub answer_at : (t : State) (before : List Item) (x : Item) (after : List Item)
     → get_or (answers_for t.desk (before ++ (x ∷ after))) (length before) 0 ≡ number_for (run_of t before).desk x
 unfolding answers_for run_of
 answer_at t [] x after = refl
 answer_at t (y ∷ before) x after' = answer_at (after t y) before x after'
 
-in_file : (file : List ℕ) (d : Desk) → fitting_of d ≡ true → (before : List Record) (k raw : ℕ) (after : List Record)
-    → records_of file ≡ before ++ (Sample k raw ∷ after)
+in_file : (file : List ℕ) (d : Desk) → fitting_of d ≡ true → (before : List Item) (k raw : ℕ) (after : List Item)
+    → records_of file ≡ before ++ (Ok (Sample k raw) ∷ after)
     → FirstIn (sample_rows (run_of (begun d) before).desk k raw) (get_or (answers_of file d) (length before) 0)
 unfolding answers_of answer_to
 in_file file d fit before k raw after e =
     subst (FirstIn (sample_rows (run_of (begun d) before).desk k raw))
-    (sym (rw (fit, e) (answer_at (begun d) before (Sample k raw) after)))
+    (sym (rw (fit, e) (answer_at (begun d) before (Ok (Sample k raw)) after)))
     (first (run_of (begun d) before).desk k raw)
 
 pub ordered : Ordered

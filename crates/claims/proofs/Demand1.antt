@@ -10,8 +10,7 @@ use lib.Dec.{ltb}
 use lib.ListN.{length, get_or, set, length-set, length-append}
 use lib.Seq.{sets, get_or-set_same, get_or-set_other}
 use borrow.Author.Tests.{ne_eqb, lt-ltb, le-ltb, ltb-false}
-use Rattle.reader.specs.declared.Record.{Record}
-use Rattle.reader.specs.File.{word_at, whole_at, record_at, records_from, records_of}
+use Rattle.reader.specs.File.{Item, word_at, whole_at, record_at, records_from, records_of}
 use Rattle.reader.proofs.Laws.File.{covered, spans_length, cut_at, whole_at_lem, cut_last, by_records, every_record, records_step, spans_step, records_end}
 use Rattle.desk.specs.Desk.{Desk, fitting_of, reset_desk}
 use Rattle.desk.proofs.Laws.Desk.{reset_fits, reset_numbers}
@@ -46,7 +45,7 @@ answers_told file = by_records file Told end more
     more at h rest d (suc i) = rw (records_step file at h) (rest (left_for d (record_at file at).item) i)
 
 -- the desk behind one more record
-run_last : (t : State) (before : List Record) (x : Record) → (run_of t (before ++ (x ∷ []))).desk ≡ left_for (run_of t before).desk x
+run_last : (t : State) (before : List Item) (x : Item) → (run_of t (before ++ (x ∷ []))).desk ≡ left_for (run_of t before).desk x
 unfolding run_of
 run_last t [] x = refl
 run_last t (y ∷ before) x = run_last (after t y) before x
@@ -77,7 +76,7 @@ sets_behind (v ∷ vs) l i j h = let other : j ≢ i = λ e. omega (arith, e) in
 -- ---- a printed text
 
 -- is never empty: it has a last line. So `kexbardi_print` answers 5 for short room alone
-lines_some : (t : State) (xs : List Record) → 0 < length (lines_of t xs)
+lines_some : (t : State) (xs : List Item) → 0 < length (lines_of t xs)
 unfolding lines_of last_text
 lines_some t [] = simp length-append (omega arith)
 lines_some t (x ∷ xs) = simp length-append (omega (arith, lines_some (after t x) xs))
@@ -101,7 +100,7 @@ printed_whole file = rw (le-ltb 655460 _ (enough (ltb 65536 (length file)) (leng
 
 -- ---- what is printed
 
-last_line : (t : State) (xs : List Record) → lines_of t xs ≡ body_of t xs ++ last_text (run_of t xs).count (run_of t xs).refused
+last_line : (t : State) (xs : List Item) → lines_of t xs ≡ body_of t xs ++ last_text (run_of t xs).count (run_of t xs).refused
 unfolding lines_of body_of run_of
 last_line t [] = refl
 last_line t (x ∷ xs) =
@@ -118,7 +117,7 @@ printed_lines file h =
     let m : (run_of (begun reset_desk) (records_of file)).refused ≡ refusals_in (answers_for reset_desk (records_of file)) = omega (arith, c) in
     rw (le-ltb 65536 (length file) h, reset_fits) (last_line (begun reset_desk) (records_of file) ∙ rw (n, m))
 
-one_line : (t : State) (before : List Record) (x : Record) → let here = run_of t before in
+one_line : (t : State) (before : List Item) (x : Item) → let here = run_of t before in
     body_of t (before ++ (x ∷ [])) ≡ body_of t before ++ line_text (here.count + 1) x (number_for here.desk x) (shown_for here.desk x)
 unfolding body_of run_of
 one_line t [] x = append-nil _
@@ -128,7 +127,7 @@ one_line t (y ∷ before) x =
     rw (one_line (after t y) before x)
     (sym (append_assoc first (body_of (after t y) before) (line_text (here.count + 1) x (number_for here.desk x) (shown_for here.desk x))))
 
-numbered_line : (before : List Record) (x : Record) → let here = (run_of (begun reset_desk) before).desk in
+numbered_line : (before : List Item) (x : Item) → let here = (run_of (begun reset_desk) before).desk in
     body_of (begun reset_desk) (before ++ (x ∷ []))
     ≡ body_of (begun reset_desk) before ++ line_text (length before + 1) x (number_for here x) (shown_for here x)
 numbered_line before x =

@@ -20,7 +20,6 @@ use Rattle.desk.proofs.Laws.Desk.{reset_fits, reset_numbers}
 use Rattle.desk.specs.Lists.{answer_to, desk_after}
 use Rattle.setups.specs.Setup.{handed_on, bytes_from, setup_of, stores_from}
 use Rattle.setups.proofs.Laws.Setup.{rebuilt_from, bytes_below, bytes_length, setup_short, setup_read, rebuilt_length, rebuilt_at, rebuilt_bytes}
-use Rattle.session.specs.declared.running.Ended.TheVariants.{Counts}
 use Rattle.session.specs.Session.{State, state, begun, after, run_of, ended_of, left_of}
 use Rattle.claims.specs.Calls.{Reserved}
 use Rattle.claims.specs.Setups.{Reached, SameStored, Ascending, no_records, kept, Rebuilt, HandedOn}
@@ -42,7 +41,7 @@ module _ (ns : List ℤ) (fit : length ns ≡ number_count) (m : ℕ) where
 
   -- a word that is stored
   stored_next : (n a : ℕ) (before : List ℕ) (value : ℕ) (zeros : List ℕ) → length before ≡ a → length (before ++ (0 ∷ zeros)) ≡ 1024 → engine_word a ≡ false
-      → after (state (before ++ (0 ∷ zeros)) ns n m) (Store a value) ≡ state (before ++ (value ∷ zeros)) ns (n + 1) m
+      → after (state (before ++ (0 ∷ zeros)) ns n m) (Ok (Store a value)) ≡ state (before ++ (value ∷ zeros)) ns (n + 1) m
   unfolding answer_to desk_after
   stored_next n a before value zeros here size reach =
       let d = lent (before ++ (0 ∷ zeros)) ns in
@@ -78,7 +77,7 @@ reached address value low e =
     let p = and_true (not (eqb value 0)) (not (engine_word address)) e in
     ((low, λ l r. false_true (rw (reserved address l r) at p.1)), λ z. false_true (rw z at p.0))
 
-earlier : {ws : List ℕ} {from : ℕ} {xs : List Record} → Ascending ws (suc from) xs → Ascending ws from xs
+earlier : {ws : List ℕ} {from : ℕ} {xs : List Item} → Ascending ws (suc from) xs → Ascending ws from xs
 earlier no_records = no_records
 earlier {from = from} (kept at h r some more) = kept {from = from} at (omega arith) r some more
 
@@ -89,12 +88,12 @@ ascends ws from (value ∷ rest) size same =
     go (ascends ws (suc from) rest (omega arith) (λ i. same (suc i) ∙ ap (λ (n : ℕ). get_or ws n 0) (omega arith))) (handed_on from value) refl
   where
     go : Ascending ws (suc from) (stores_from (suc from) rest) → (b : Bool) → handed_on from value ≡ b
-        → Ascending ws from (cond b (Store from value ∷ stores_from (suc from) rest) (stores_from (suc from) rest))
+        → Ascending ws from (cond b (Ok (Store from value) ∷ stores_from (suc from) rest) (stores_from (suc from) rest))
     go later false e = earlier later
     go later true e =
         let here : value ≡ get_or ws from 0 = same 0 ∙ rw (add-zero from) in
         let r = reached from value (omega arith) e in
-        subst (λ (v : ℕ). Ascending ws from (Store from v ∷ stores_from (suc from) rest)) (sym here) (kept from (omega arith) r.0 (λ z. r.1 (here ∙ z)) later)
+        subst (λ (v : ℕ). Ascending ws from (Ok (Store from v) ∷ stores_from (suc from) rest)) (sym here) (kept from (omega arith) r.0 (λ z. r.1 (here ∙ z)) later)
 
 -- read from reset
 setup_run : (ws : List ℕ) → length ws ≡ 1024
@@ -112,11 +111,11 @@ module _ (ws : List ℕ) (i : ℕ) where
   rebuilt_zero low r = rebuilt_at 0 ws i ∙ rw (zero-add i, reserved i low r)
 
 rebuilds : (ws : List ℕ) → length ws ≡ 1024
-    → (ended_of (setup_of ws) reset_desk ≡ Counts (length (records_of (setup_of ws))) 0) × Rebuilt ws (left_of (setup_of ws) reset_desk)
+    → (ended_of (setup_of ws) reset_desk ≡ Ok (totals (length (records_of (setup_of ws))) 0)) × Rebuilt ws (left_of (setup_of ws) reset_desk)
 unfolding ended_of left_of
 rebuilds ws l =
     rw (reset_fits, setup_run ws l) (
-      ap (λ (xs : List Record). Counts (length xs) 0) (sym (setup_read ws)),
+      ap (λ (xs : List Item). Ok (totals (length xs) 0)) (sym (setup_read ws)),
       record {
         words = rebuilt_word ws;
         elsewhere = rebuilt_zero ws;

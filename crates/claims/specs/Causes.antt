@@ -3,9 +3,8 @@
 use Rattle.std.specs.Prelude.{ℕ, ◌+◌, ◌*◌, ◌≤◌, ◌<◌, ◌≡◌, true, false, ◌||◌, ◌⊎◌, List, [], ◌∷◌, ◌++◌, ℤ, pos, length, get_or}
 use Rattle.numbers.specs.Roots.{Nearest}
 use Rattle.refusals.specs.Refusals.{number_of, Row, ◌when◌, FirstIn}
-use Rattle.reader.specs.declared.Record.{Record}
 use Rattle.reader.specs.declared.Record.TheVariants.{Sample}
-use Rattle.reader.specs.File.{records_of}
+use Rattle.reader.specs.File.{Item, records_of}
 use Rattle.table.specs.Words.{bit, bcd, bad_digit, any, base_of}
 use Rattle.reading.specs.Settings.{unused_bits}
 use Rattle.carried.specs.Layout.{Rows, slot_of, numbers_at}
@@ -111,6 +110,6 @@ pub record Ordered : Type 0 where
   -- Q11: a forecast as a sample with raw PV 0
   pub forecasts : (d : Desk) (k samples : ℕ) → FirstIn (sample_rows d k 0) (told_by (forecast_at d k) samples).number
   -- O2: a sample of a file as on the desk that the records before it leave
-  pub files : (file : List ℕ) (d : Desk) → fitting_of d ≡ true → (before : List Record) (k raw : ℕ) (after : List Record)
-      → records_of file ≡ before ++ (Sample k raw ∷ after)
+  pub files : (file : List ℕ) (d : Desk) → fitting_of d ≡ true → (before : List Item) (k raw : ℕ) (after : List Item)
+      → records_of file ≡ before ++ (Ok (Sample k raw) ∷ after)
       → FirstIn (sample_rows (run_of (begun d) before).desk k raw) (get_or (answers_of file d) (length before) 0)

@@ -7,9 +7,8 @@ use Rattle.std.proofs.Math.Seq.{slice}
 use Rattle.std.proofs.lemmas.List.Edits.{sets}
 use Rattle.text.specs.Text.{bytes}
 use Rattle.refusals.specs.declared.Refusal.TheVariants.{Cut, Kind, Length}
-use Rattle.reader.specs.declared.Record.{Record}
-use Rattle.reader.specs.declared.Record.TheVariants.{Store, Sample, Refused}
-use Rattle.reader.specs.File.{word_at, record_at, records_from, records_of, spans_from, spans_of}
+use Rattle.reader.specs.declared.Record.TheVariants.{Store, Sample}
+use Rattle.reader.specs.File.{Item, word_at, record_at, records_from, records_of, spans_from, spans_of}
 use Rattle.desk.specs.Desk.{Desk, fitting_of, reset_desk}
 use Rattle.lines.specs.Lines.{line_text, last_text}
 use Rattle.session.specs.Session.{number_for, left_for, shown_for, begun, run_of, refusals_in, ended_of, left_of, answers_of}
@@ -19,13 +18,13 @@ use Rattle.claims.specs.Calls.{Answered, Called}
 use Rattle.claims.specs.Causes.{Ordered}
 
 -- L2 to L7: what a record is whose n bytes stand whole behind its length, with the kind at `at`
-pub record Whole (file : List ℕ) (at n kind : ℕ) (item : Record) : Type 0 where
-  pub short : n < 2 → item ≡ Refused Kind
-  pub unknown : (kind ≡ 1 → ⊥) → (kind ≡ 2 → ⊥) → item ≡ Refused Kind
-  pub store : kind ≡ 1 → n ≡ 6 → item ≡ Store (word_at file (at + 2)) (word_at file (at + 4))
-  pub sample : kind ≡ 2 → n ≡ 5 → item ≡ Sample (get_or file (at + 2) 0) (word_at file (at + 3))
-  pub store_length : 2 ≤ n → kind ≡ 1 → (n ≡ 6 → ⊥) → item ≡ Refused Length
-  pub sample_length : 2 ≤ n → kind ≡ 2 → (n ≡ 5 → ⊥) → item ≡ Refused Length
+pub record Whole (file : List ℕ) (at n kind : ℕ) (item : Item) : Type 0 where
+  pub short : n < 2 → item ≡ Err Kind
+  pub unknown : (kind ≡ 1 → ⊥) → (kind ≡ 2 → ⊥) → item ≡ Err Kind
+  pub store : kind ≡ 1 → n ≡ 6 → item ≡ Ok (Store (word_at file (at + 2)) (word_at file (at + 4)))
+  pub sample : kind ≡ 2 → n ≡ 5 → item ≡ Ok (Sample (get_or file (at + 2) 0) (word_at file (at + 3)))
+  pub store_length : 2 ≤ n → kind ≡ 1 → (n ≡ 6 → ⊥) → item ≡ Err Length
+  pub sample_length : 2 ≤ n → kind ≡ 2 → (n ≡ 5 → ⊥) → item ≡ Err Length
 
 pub record Demand1 : Type 0 where
   -- ---- the file
@@ -34,7 +33,7 @@ pub record Demand1 : Type 0 where
   pub read : (file : List ℕ) → (flatten (spans_of file) ≡ file) × (length (spans_of file) ≡ length (records_of file))
   -- L5: where fewer bytes are left than a length and what it asks for, the record is cut and is the last
   pub cut : (file : List ℕ) (at : ℕ) → length file < at + 2 + word_at file at → let r = record_at file at in
-      (r.item ≡ Refused Cut) × (r.next ≡ length file)
+      (r.item ≡ Err Cut) × (r.next ≡ length file)
   -- L8: any other is what its bytes say, and is followed by what stands behind them
   pub whole : (file : List ℕ) (at : ℕ) → at + 2 + word_at file at ≤ length file → let r = record_at file at in
       Whole file (at + 2) (word_at file at) (word_at file (at + 2)) r.item × (r.next ≡ at + 2 + word_at file at)
@@ -42,9 +41,9 @@ pub record Demand1 : Type 0 where
       (records_from file at ≡ r.item ∷ records_from file r.next) × (spans_from file at ≡ slice at r.next file ∷ spans_from file r.next)
   pub end : (file : List ℕ) (at : ℕ) → length file ≤ at → records_from file at ≡ []
   -- N1, N2 and N3
-  pub unread : (d : Desk) → (number_for d (Refused Cut) ≡ 1) × (number_for d (Refused Kind) ≡ 2) × (number_for d (Refused Length) ≡ 3)
+  pub unread : (d : Desk) → (number_for d (Err Cut) ≡ 1) × (number_for d (Err Kind) ≡ 2) × (number_for d (Err Length) ≡ 3)
   -- L5: a cut record is the last one
-  pub last : (file : List ℕ) (before after : List Record) → records_of file ≡ before ++ (Refused Cut ∷ after) → after ≡ []
+  pub last : (file : List ℕ) (before after : List Item) → records_of file ≡ before ++ (Err Cut ∷ after) → after ≡ []
   -- ---- a file carried out
 
   -- Q5: on memory of the right lengths the answer is 0, there is an answer for each record, and `refused` counts those that are not 0
@@ -53,7 +52,7 @@ pub record Demand1 : Type 0 where
   -- every answer is a number that a call is answered with
   pub numbers : (file : List ℕ) (d : Desk) (i : ℕ) → Answered (get_or (answers_of file d) i 0)
   -- O2, O5: each record is answered by the desk as those before left it, and carried out on it; where its answer is not 0, words and numbers stay
-  pub each : (file : List ℕ) (d : Desk) → fitting_of d ≡ true → (before : List Record) (x : Record) (after : List Record)
+  pub each : (file : List ℕ) (d : Desk) → fitting_of d ≡ true → (before : List Item) (x : Item) (after : List Item)
       → records_of file ≡ before ++ (x ∷ after)
       → let here = (run_of (begun d) before).desk in
       let then = (run_of (begun d) (before ++ (x ∷ []))).desk in
@@ -74,7 +73,7 @@ pub record Demand1 : Type 0 where
   -- L9, L10: a line for each record, and a last line that counts the records and those that were refused
   pub lines : (file : List ℕ) → length file ≤ 65536
       → printed_of file ≡ body_of (begun reset_desk) (records_of file) ++ last_text (length (records_of file)) (refusals_in (answers_of file reset_desk))
-  pub line : (before : List Record) (x : Record) → let here = (run_of (begun reset_desk) before).desk in
+  pub line : (before : List Item) (x : Item) → let here = (run_of (begun reset_desk) before).desk in
       body_of (begun reset_desk) (before ++ (x ∷ []))
       ≡ body_of (begun reset_desk) before ++ line_text (length before + 1) x (number_for here x) (shown_for here x)
   pub no_line : body_of (begun reset_desk) [] ≡ []

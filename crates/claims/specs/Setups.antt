@@ -1,11 +1,9 @@
 -- What is promised of a setup file (L13): read from reset it rebuilds the words, it is equal for equal words alone, and it is short.
 use Rattle.std.specs.Prelude.{ℕ, suc, ◌*◌, ◌%◌, ◌≤◌, ◌<◌, ◌≡◌, List, [], ◌∷◌, length, get_or}
-use Rattle.reader.specs.declared.Record.{Record}
 use Rattle.reader.specs.declared.Record.TheVariants.{Store}
-use Rattle.reader.specs.File.{records_of}
+use Rattle.reader.specs.File.{Item, records_of}
 use Rattle.desk.specs.Desk.{Desk, reset_desk}
 use Rattle.setups.specs.Setup.{setup_of}
-use Rattle.session.specs.declared.running.Ended.TheVariants.{Counts}
 use Rattle.session.specs.Session.{ended_of, left_of}
 use Rattle.claims.specs.Calls.{Reserved}
 
@@ -18,10 +16,10 @@ abbrev pub SameStored : List ℕ → List ℕ → Type 0
 SameStored ws vs = (i : ℕ) → Reached i → get_or ws i 0 ≡ get_or vs i 0
 
 -- from an address on: records of kind 1 alone, in the order of their addresses, each of a word that a store reaches and that is not 0
-pub data Ascending (ws : List ℕ) : ℕ → List Record → Type 0 where
+pub data Ascending (ws : List ℕ) : ℕ → List Item → Type 0 where
   no_records : {from : ℕ} → Ascending ws from []
-  kept : {from : ℕ} (at : ℕ) {rest : List Record} → from ≤ at → Reached at → (get_or ws at 0 ≡ 0 → ⊥) → Ascending ws (suc at) rest
-      → Ascending ws from (Store at (get_or ws at 0) ∷ rest)
+  kept : {from : ℕ} (at : ℕ) {rest : List Item} → from ≤ at → Reached at → (get_or ws at 0 ≡ 0 → ⊥) → Ascending ws (suc at) rest
+      → Ascending ws from (Ok (Store at (get_or ws at 0)) ∷ rest)
 
 -- what a run of the file from reset leaves: those words, 0 elsewhere, and the records as they were
 pub record Rebuilt (ws : List ℕ) (d : Desk) : Type 0 where
@@ -37,7 +35,7 @@ pub record HandedOn : Type 0 where
   pub bytes : (ws : List ℕ) → length ws ≡ 1024 → ((i : ℕ) → get_or ws i 0 < 65536) → (i : ℕ) → get_or (setup_of ws) i 0 < 256
   -- read from reset it is carried out whole, no record refused, and rebuilds the words
   pub rebuilds : (ws : List ℕ) → length ws ≡ 1024
-      → (ended_of (setup_of ws) reset_desk ≡ Counts (length (records_of (setup_of ws))) 0) × Rebuilt ws (left_of (setup_of ws) reset_desk)
+      → (ended_of (setup_of ws) reset_desk ≡ Ok (totals (length (records_of (setup_of ws))) 0)) × Rebuilt ws (left_of (setup_of ws) reset_desk)
   -- equal files are of words that agree wherever a store reaches, those that are 0 among them; and such words have equal files
   pub only : (ws vs : List ℕ) → length ws ≡ 1024 → length vs ≡ 1024 → (setup_of ws ≡ setup_of vs → SameStored ws vs) × (SameStored ws vs → setup_of ws ≡ setup_of vs)
   -- it has eight bytes for each word that is handed on, 7,680 at most: so `drill` prints it whole

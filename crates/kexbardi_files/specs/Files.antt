@@ -3,8 +3,7 @@ use Rattle.std.specs.Prelude.{ℕ, cond, List, eqb, length, Result, Ok, Err}
 use Rattle.std.proofs.lemmas.List.Edits.{sets}
 use Rattle.refusals.specs.declared.Refusal.{Refusal}
 use Rattle.refusals.specs.Refusals.{number_of_refusal}
-use Rattle.session.specs.declared.running.Ended.{Ended}
-use Rattle.session.specs.declared.running.Ended.TheVariants.{Counts, Stopped}
+use Rattle.session.specs.declared.running.Totals.{Totals}
 use Rattle.desk.specs.Desk.{Desk}
 use Rattle.session.specs.Session.{answers_of}
 use Rattle.session.specs.Printed.{printed_within}
@@ -21,9 +20,9 @@ abbrev pub ended : ℕ → ℕ → ℕ → Ran
 ended number count refused = record { number = number; count = count; refused = refused }
 
 -- Q5: by how the session ended; where it stopped the counts stay (Q8)
-abbrev pub ended_by : Ended → ℕ → ℕ → Ran
-ended_by (Stopped why) count refused = ended (number_of_refusal why) count refused
-ended_by (Counts n m) count refused = ended 0 n m
+abbrev pub ended_by : Result Totals Refusal → ℕ → ℕ → Ran
+ended_by (Err why) count refused = ended (number_of_refusal why) count refused
+ended_by (Ok all) count refused = ended 0 all.count all.refused
 
 -- Q5: the buffer of the answers, from its start on, as far as there is room
 abbrev pub answers_left : List ℕ → Desk → List ℕ → List ℕ

@@ -10,7 +10,6 @@ ghost use Rattle.session.specs.Session.{ended_of, left_of};
 ghost use Rattle.kexbardi_files.specs.Files.{ended, ended_by, answers_left, filled, print_left, setup_filled};
 
 use refusals::{ACCEPTED, MEMORY, number_of};
-use session::Ended;
 
 // Q5: a file of any length carried out. 5. Else the answer to each record goes into `answers` in order, as
 // far as there is room, and the counts of records and of refused ones into `count` and `refused`.
@@ -27,13 +26,12 @@ pub extern "C" fn kexbardi_run(
     ensures left { lent words.new records.new ≡ left_of file.now (lent words.old records.old) }
     ensures answers { answers.new ≡ answers_left file.now (lent words.old records.old) answers.old }
 {
-    let how = session::run(file, words, records, answers);
-    match how {
-        Ended::Stopped(why) => number_of(Err(why)),
-        Ended::Counts(n, m) => {
-            *count = n;
-            *refused = m;
-            0
+    match session::run(file, words, records, answers) {
+        Err(why) => number_of(Err(why)),
+        Ok(all) => {
+            *count = all.count;
+            *refused = all.refused;
+            ACCEPTED
         }
     }
 }
