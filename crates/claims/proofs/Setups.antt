@@ -4,6 +4,7 @@ use native.Mathlib.Omega.{arith}
 use native.Mathlib.Nat.{add-zero, zero-add}
 use mathlib.Core.Path.{◌≡◌, refl, sym, ap, subst, ◌∙◌}
 use mathlib.Core.Bool.{Bool, true, false, cond, not}
+use Rattle.std.specs.Prelude.{Ok}
 use mathlib.Core.List.{List, [], ◌∷◌, ◌++◌, append_assoc}
 use lib.Dec.{eqb}
 use lib.IntN.{ℤ, pos}
@@ -12,15 +13,14 @@ use lib.Seq.{set_at, ext_get_or}
 use borrow.Author.Tests.{eqb-true}
 use Rattle.carried.specs.Layout.{number_count}
 use Rattle.table.specs.Words.Laws.{and_true}
-use Rattle.reader.specs.declared.Record.{Record}
 use Rattle.reader.specs.declared.Record.TheVariants.{Store}
-use Rattle.reader.specs.File.{records_of}
+use Rattle.reader.specs.File.{Item, records_of}
 use Rattle.desk.specs.Desk.{lent, engine_word, reset_desk}
 use Rattle.desk.proofs.Laws.Desk.{reset_fits, reset_numbers}
 use Rattle.desk.specs.Lists.{answer_to, desk_after}
 use Rattle.setups.specs.Setup.{handed_on, bytes_from, setup_of, stores_from}
 use Rattle.setups.proofs.Laws.Setup.{rebuilt_from, bytes_below, bytes_length, setup_short, setup_read, rebuilt_length, rebuilt_at, rebuilt_bytes}
-use Rattle.session.specs.Session.{State, state, begun, after, run_of, ended_of, left_of}
+use Rattle.session.specs.Session.{State, state, totals, begun, after, run_of, ended_of, left_of}
 use Rattle.claims.specs.Calls.{Reserved}
 use Rattle.claims.specs.Setups.{Reached, SameStored, Ascending, no_records, kept, Rebuilt, HandedOn}
 use Rattle.claims.proofs.Calls.{fitting, reserved, free, stored}

@@ -1,6 +1,6 @@
 -- Which number a sample is refused with: for each the words and numbers that cause it, in the one order in which they are tested (O3, O4). A forecast
 -- and a sample of a drill file go by the same rows. The words are read by the definitions of a single word: `bit`, `bad_digit`, `bcd`, `unused_bits`.
-use Rattle.std.specs.Prelude.{ℕ, ◌+◌, ◌*◌, ◌≤◌, ◌<◌, ◌≡◌, true, false, ◌||◌, ◌⊎◌, List, [], ◌∷◌, ◌++◌, ℤ, pos, length, get_or}
+use Rattle.std.specs.Prelude.{ℕ, ◌+◌, ◌*◌, ◌≤◌, ◌<◌, ◌≡◌, true, false, ◌||◌, ◌⊎◌, List, [], ◌∷◌, ◌++◌, ℤ, pos, length, get_or, Ok}
 use Rattle.numbers.specs.Roots.{Nearest}
 use Rattle.refusals.specs.Refusals.{number_of, Row, ◌when◌, FirstIn}
 use Rattle.reader.specs.declared.Record.TheVariants.{Sample}

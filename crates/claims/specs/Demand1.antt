@@ -1,7 +1,7 @@
 -- Demand 1. A drill file is any list of bytes. All of it is read: a record that the file cuts off is the last one, and behind every other record the
 -- next one is read, whether that record was carried out or refused. A refusal has a number of N1 to N14, a setup's alone N10, that of the first
 -- cause that holds (`Causes`), and changes no word and no number, in a file and in a direct call; a refused direct call leaves everything that was lent to it.
-use Rattle.std.specs.Prelude.{ℕ, ◌+◌, ◌≤◌, ◌<◌, ◌≡◌, true, false, pos, length, get_or, replicate}
+use Rattle.std.specs.Prelude.{ℕ, ◌+◌, ◌≤◌, ◌<◌, ◌≡◌, true, false, pos, length, get_or, replicate, Ok, Err}
 use mathlib.Core.List.{List, [], ◌∷◌, ◌++◌, flatten}
 use Rattle.std.proofs.Math.Seq.{slice}
 use Rattle.std.proofs.lemmas.List.Edits.{sets}

@@ -1,10 +1,10 @@
 -- What is promised of a setup file (L13): read from reset it rebuilds the words, it is equal for equal words alone, and it is short.
-use Rattle.std.specs.Prelude.{ℕ, suc, ◌*◌, ◌%◌, ◌≤◌, ◌<◌, ◌≡◌, List, [], ◌∷◌, length, get_or}
+use Rattle.std.specs.Prelude.{ℕ, suc, ◌*◌, ◌%◌, ◌≤◌, ◌<◌, ◌≡◌, List, [], ◌∷◌, length, get_or, Ok}
 use Rattle.reader.specs.declared.Record.TheVariants.{Store}
 use Rattle.reader.specs.File.{Item, records_of}
 use Rattle.desk.specs.Desk.{Desk, reset_desk}
 use Rattle.setups.specs.Setup.{setup_of}
-use Rattle.session.specs.Session.{ended_of, left_of}
+use Rattle.session.specs.Session.{totals, ended_of, left_of}
 use Rattle.claims.specs.Calls.{Reserved}
 
 -- N6: a word that a store reaches
