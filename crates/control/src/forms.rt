@@ -12,6 +12,13 @@ pub struct Drive {
     pub output: i64,
 }
 
+// The output's limits, in units.
+#[derive(Clone, Copy)]
+pub struct Limits {
+    pub low: i64,
+    pub high: i64,
+}
+
 // A8 outside the limits: with freeze the bias stays, else it is taken back from the output.
 // `base` is P − D, `limit` the limit that was passed.
 #[tactic(auto, unfolding(crate::specs::Forms::outside_of))]
@@ -26,18 +33,18 @@ fn outside(freeze: bool, drive: Drive, base: i64, limit: i64) -> Drive
     }
 }
 
-// A8. The limits are in units.
-pub fn position(freeze: bool, drive: Drive, terms: Terms, low: i64, high: i64) -> Drive
-    requires { Ready drive terms low high }
-    ensures { result ≡ position_of freeze drive terms low high }
+// A8.
+pub fn position(freeze: bool, drive: Drive, terms: Terms, limits: Limits) -> Drive
+    requires { Ready drive terms limits.low limits.high }
+    ensures { result ≡ position_of freeze drive terms limits.low limits.high }
 {
     let base = terms.p - terms.d;
     let trial = drive.bias + terms.i;
     let m = base + trial;
-    if m < low {
-        outside(freeze, drive, base, low)
-    } else if high < m {
-        outside(freeze, drive, base, high)
+    if m < limits.low {
+        outside(freeze, drive, base, limits.low)
+    } else if limits.high < m {
+        outside(freeze, drive, base, limits.high)
     } else {
         Drive {
             bias: trial,
@@ -47,10 +54,14 @@ pub fn position(freeze: bool, drive: Drive, terms: Terms, low: i64, high: i64) -
 }
 
 // A9.
-pub fn velocity(drive: Drive, terms: Terms, low: i64, high: i64) -> Drive
-    requires { Ready drive terms low high }
-    ensures { result ≡ velocity_of drive terms low high }
+pub fn velocity(drive: Drive, terms: Terms, limits: Limits) -> Drive
+    requires { Ready drive terms limits.low limits.high }
+    ensures { result ≡ velocity_of drive terms limits.low limits.high }
 {
-    let output = numbers::clamp(drive.output + terms.p + terms.i - terms.d, low, high);
+    let output = numbers::clamp(
+        drive.output + terms.p + terms.i - terms.d,
+        limits.low,
+        limits.high,
+    );
     Drive { output, ..drive }
 }

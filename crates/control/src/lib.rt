@@ -9,5 +9,5 @@ mod terms;
 
 pub use counts::output_counts;
 pub use errors::{error, in_deadband};
-pub use forms::{Drive, position, velocity};
+pub use forms::{Drive, Limits, position, velocity};
 pub use terms::{Inputs, Terms, terms_of};

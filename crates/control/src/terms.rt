@@ -5,8 +5,9 @@ ghost use Rattle.control.specs.Terms.{factor_of, exact_p, exact_i, exact_d, nega
 ghost use Rattle.control.specs.Premises.{Tuned, Bounded, Small};
 
 use reading::Tuning;
+use std::ops::Neg;
 
-// What each term acts on: in position form the error, the error and the PV's change; in velocity
+// What each term acts on, in counts: in position form the error, the error and the PV's change; in velocity
 // form their differences from the sample before, but for the integral.
 #[derive(Clone, Copy)]
 pub struct Inputs {
@@ -15,7 +16,7 @@ pub struct Inputs {
     pub d: i64,
 }
 
-// The terms, in units.
+// The terms, in units. A type of its own: with one for both, counts could be passed for units.
 #[derive(Clone, Copy)]
 pub struct Terms {
     pub p: i64,
@@ -94,26 +95,28 @@ fn direct_terms(tuning: Tuning, minutes: bool, inputs: Inputs) -> Terms
 }
 
 // Reverse acting changes the sign of all three.
-fn directed(reverse: bool, terms: Terms) -> Terms
-    requires { Small terms }
-    ensures { result ≡ cond reverse (negated terms) terms }
-{
-    if reverse {
+impl Neg for Terms {
+    type Output = Terms;
+
+    ghost can_neg = { Small };
+
+    ghost neg_gives = { λ terms r. r ≡ negated terms };
+
+    fn neg(self) -> Terms {
         Terms {
-            p: -terms.p,
-            i: -terms.i,
-            d: -terms.d,
+            p: -self.p,
+            i: -self.i,
+            d: -self.d,
         }
-    } else {
-        terms
     }
 }
 
 // All three, in the loop's direction.
-#[tactic(auto, using(crate::specs::Terms::Laws::terms_high, crate::specs::Terms::Laws::terms_directed))]
+#[tactic(auto, using(crate::specs::Terms::Laws::terms_high, crate::specs::Terms::Laws::terms_reversed))]
 pub fn terms_of(tuning: Tuning, minutes: bool, reverse: bool, inputs: Inputs) -> Terms
     requires { Tuned tuning × Bounded inputs }
     ensures { result ≡ terms_of tuning minutes reverse inputs }
 {
-    directed(reverse, direct_terms(tuning, minutes, inputs))
+    let direct = direct_terms(tuning, minutes, inputs);
+    if reverse { -direct } else { direct }
 }

@@ -7,7 +7,7 @@ ghost use Rattle.engine.specs.Premises.{Drivable};
 
 use crate::sensing::Sensed;
 use carried::{Carried, Past};
-use control::{Drive, Inputs, Terms};
+use control::{Drive, Inputs, Limits, Terms};
 use reading::{Mode2, Reading, Settings};
 
 // A4, A10: word 5 brought inside the output limits.
@@ -120,12 +120,14 @@ fn moved_in(s: Settings, drive: Drive, inputs: Inputs) -> Drive
     ensures { result ≡ moved_in s drive inputs }
 {
     let terms = terms_in(s, inputs);
-    let low = numbers::units(s.limits.low);
-    let high = numbers::units(s.limits.high);
+    let limits = Limits {
+        low: numbers::units(s.limits.low),
+        high: numbers::units(s.limits.high),
+    };
     if s.mode1.velocity {
-        control::velocity(drive, terms, low, high)
+        control::velocity(drive, terms, limits)
     } else {
-        control::position(s.mode1.freeze, drive, terms, low, high)
+        control::position(s.mode1.freeze, drive, terms, limits)
     }
 }
 

@@ -53,6 +53,11 @@ unfolding terms_of exact_terms
 terms_directed t minutes true x = simp round_neg
 terms_directed t minutes false x = refl
 
+-- reverse acting: r is what the negation of the direct terms d gives
+pub terms_reversed : (t : Tuning) (minutes : Bool) (x : Inputs) {d r : Terms} → d ≡ terms_of t minutes false x → r ≡ negated d
+    → r ≡ terms_of t minutes true x
+terms_reversed t minutes x e f = f ∙ rw e (terms_directed t minutes true x)
+
 directed_abs : (reverse : Bool) (x : Fraction) → nat_abs (round_to 262144 (directedᶠ reverse x)) ≡ nat_abs (round_to 262144 x)
 directed_abs true x = ap nat_abs (round_neg 262144 x) ∙ abs_neg (round_to 262144 x)
 directed_abs false x = refl

@@ -25,31 +25,31 @@ sums drive t ready =
     let k = abs_add drive.bias t.i in
     (small (omega arith), small (omega arith), small (omega (arith, abs_add base trial)))
 
-pub returns-then-m-low : goal.returns-then-m-low
+pub returns-then-m-limits : goal.returns-then-m-limits
 unfolding position_of clamp_by
-returns-then-m-low c =
+returns-then-m-limits c =
     let t = c.args.terms in
     let m = (t.p -ℤ t.d) +ℤ (c.args.drive.bias +ℤ t.i) in
     let h = sums c.args.drive t c.requires in
-    let below : lt_z m c.args.low ≡ true = (search rules) ∙ c.if-m-low.true in
+    let below : lt_z m c.args.limits.low ≡ true = (search rules) ∙ c.if-m-limits.true in
     simp below (c.outside.ensures ∙ (search rules))
 
-pub returns-then-high-m : goal.returns-then-high-m
+pub returns-then-limits-m : goal.returns-then-limits-m
 unfolding position_of clamp_by
-returns-then-high-m c =
+returns-then-limits-m c =
     let t = c.args.terms in
     let m = (t.p -ℤ t.d) +ℤ (c.args.drive.bias +ℤ t.i) in
     let h = sums c.args.drive t c.requires in
-    let not-below : lt_z m c.args.low ≡ false = (search rules) ∙ c.if-m-low.false in
-    let above : lt_z c.args.high m ≡ true = (search rules) ∙ c.if-high-m.true in
-    simp (not-below, above) (c.outside-then-high-m.ensures ∙ (search rules))
+    let not-below : lt_z m c.args.limits.low ≡ false = (search rules) ∙ c.if-m-limits.false in
+    let above : lt_z c.args.limits.high m ≡ true = (search rules) ∙ c.if-limits-m.true in
+    simp (not-below, above) (c.outside-then-limits-m.ensures ∙ (search rules))
 
-pub returns-else-high-m : goal.returns-else-high-m
+pub returns-else-limits-m : goal.returns-else-limits-m
 unfolding position_of clamp_by
-returns-else-high-m c =
+returns-else-limits-m c =
     let t = c.args.terms in
     let m = (t.p -ℤ t.d) +ℤ (c.args.drive.bias +ℤ t.i) in
     let h = sums c.args.drive t c.requires in
-    let not-below : lt_z m c.args.low ≡ false = (search rules) ∙ c.if-m-low.false in
-    let not-above : lt_z c.args.high m ≡ false = (search rules) ∙ c.if-high-m.false in
+    let not-below : lt_z m c.args.limits.low ≡ false = (search rules) ∙ c.if-m-limits.false in
+    let not-above : lt_z c.args.limits.high m ≡ false = (search rules) ∙ c.if-limits-m.false in
     simp (not-below, not-above) (search rules)

@@ -31,6 +31,6 @@ returns c =
     let d = c.args.drive in
     let t = c.args.terms in
     let h = sums d t c.requires in
-    let e : c.clamp-output.result ≡ clampℤ (((d.output +ℤ t.p) +ℤ t.i) -ℤ t.d) c.args.low c.args.high
+    let e : c.clamp-output.result ≡ clampℤ (((d.output +ℤ t.p) +ℤ t.i) -ℤ t.d) c.args.limits.low c.args.limits.high
     = c.clamp-output.ensures ∙ clamp_int_is _ _ _ ∙ (search rules) in
     rw (← e) (search rules)
