@@ -7,11 +7,12 @@ ghost use Rattle.measuring.specs.Measuring.{pv_of, measured_of};
 use reading::Reading;
 
 // The raw PV, or the root of it.
+#[tactic(auto, using(crate::specs::Measuring::Laws::root_word), unfolding(crate::specs::Measuring::pv_of))]
 fn measured(root: bool, scale: u16, raw: u16) -> u16
     ensures { result ≡ pv_of root scale raw }
 {
     if root {
-        numbers::root(raw as u32 * scale as u32) as u16
+        numbers::root(u32::from(raw) * u32::from(scale)) as u16
     } else {
         raw
     }

@@ -1,7 +1,9 @@
 -- Newton's rounds, by which the code comes to the root of v: a round takes the mean of x and v / x, rounded up. It is never below the root.
 -- How close x is, is told by n: it is above the root by at most 1 and an n-th part of it. A round makes 2 × n × n of n.
-use Rattle.std.specs.Prelude.{ℕ, zero, suc, ◌+◌, ◌*◌, ◌-◌, ◌/◌, ◌^◌, ◌≤◌, ◌<◌, ◌≡◌}
-use Rattle.std.proofs.Common.{ap, subst, arith, mul-le-mul, mul-le-mul_left, mul-le-mul_right, lt_of_not-le, mul-pos, pow-suc, div-lt_iff_lt-mul, le-div_iff_mul-le, add-one, pow_mono, pow_pos, pow-add}
+use Rattle.std.specs.Prelude.{ℕ, zero, suc, ◌+◌, ◌*◌, ◌-◌, ◌/◌, ◌^◌, ◌%◌, ◌≤◌, ◌<◌, ◌≡◌}
+use native.Mathlib.Nat.{one-mul}
+use lib.Pow.{shl_exact}
+use Rattle.std.proofs.Common.{ap, ◌∙◌, subst, arith, mul-le-mul, mul-le-mul_left, mul-le-mul_right, lt_of_not-le, mul-pos, pow-suc, div-lt_iff_lt-mul, le-div_iff_mul-le, add-one, pow_mono, pow_pos, pow-add}
 use Rattle.std.proofs.Math.Decide.{dec_le}
 use Rattle.std.proofs.Math.Nat.{le_dest}
 use Rattle.std.specs.Int.Count.{count_leading_zeros}
@@ -149,6 +151,10 @@ first_fits v h =
     let p = half_power v h in
     let quotient = (div-lt_iff_lt-mul {k = 2 ^ k} {x = v} {y = 2 * 2 ^ k} (pow_pos k)).1 (omega (arith, p.1)) in
     omega (arith, quotient, pow_mono (half_most v))
+
+-- `1 << half`, from which nothing is shifted out
+pub shifted : (v : ℕ) → v < 2 ^ 32 → 1 * 2 ^ half v % 2 ^ 32 ≡ 2 ^ half v
+shifted v h = shl_exact {a = 1} 1 (half v) 32 (omega arith) (omega (arith, half_most v)) ∙ one-mul (2 ^ half v)
 
 pub first_close : (v : ℕ) → v < 2 ^ 32 → Close 10 v (mean v (2 ^ half v))
 first_close v h = let p = half_power v h in first h (pow_pos (half v)) p.0 p.1

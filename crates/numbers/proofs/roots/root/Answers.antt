@@ -22,16 +22,16 @@ overflow_add-x-in-loop c = omega (arith, round_fits c.loop.counter (omega arith)
 pub loop-preserved : goal.loop-preserved
 loop-preserved c = (omega arith, close_after c.loop.counter (omega arith) c.loop.invariant.1)
 
-pub returns-then-below-x : goal.returns-then-below-x
-returns-then-below-x c =
+pub returns-then-from : goal.returns-then-from
+returns-then-from c =
     let x = c.loop.x in
     let e : c.loop.counter ≡ 2 = omega arith in
     let h = last e c.loop.invariant.1 in
-    ends_at (x - 1) (omega arith) h (omega (arith, h.some)) (omega (arith, c.if-below-x.true))
+    ends_at (x - 1) (omega arith) h (omega (arith, h.some)) (omega (arith, simp (c.from.ensures, c.from-2.ensures) at c.if-from.true))
 
-pub returns-else-below-x : goal.returns-else-below-x
-returns-else-below-x c =
+pub returns-else-from : goal.returns-else-from
+returns-else-from c =
     let x = c.loop.x in
     let e : c.loop.counter ≡ 2 = omega arith in
     let h = last e c.loop.invariant.1 in
-    ends_before (x - 1) (omega arith) h (omega (arith, h.some)) (omega (arith, c.if-below-x.false))
+    ends_before (x - 1) (omega arith) h (omega (arith, h.some)) (omega (arith, simp (c.from.ensures, c.from-2.ensures) at c.if-from.false))
