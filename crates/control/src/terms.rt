@@ -41,44 +41,40 @@ fn term(k: u64, e: i64, d: u64) -> i64
 
 // P. Settings are in hundredths here and below.
 #[tactic(auto, unfolding(crate::specs::Terms::exact_p))]
-fn proportional(gain: u16, e: i64) -> i64
-    requires { (gain ≤ 9999) × (nat_abs e ≤ 131070) }
-    ensures { result ≡ round_to 262144 (exact_p gain e) }
+fn proportional(tuning: Tuning, e: i64) -> i64
+    requires { Tuned tuning × (nat_abs e ≤ 131070) }
+    ensures { result ≡ round_to 262144 (exact_p tuning.gain e) }
 {
-    term(u64::from(gain), e, 100)
+    term(u64::from(tuning.gain), e, 100)
 }
 
 // I: none at reset 9999. `minutes` says that the reset is in minutes.
 #[tactic(auto, using(crate::specs::Terms::Laws::no_term), unfolding(crate::specs::Terms::exact_i))]
-fn integral(c: u16, period: u16, reset: u16, minutes: bool, e: i64) -> i64
-    requires { (c ≤ 9999) × ((period ≤ 9999) × ((0 < reset) × (nat_abs e ≤ 131070))) }
-    ensures { result ≡ round_to 262144 (exact_i c period reset minutes e) }
+fn integral(tuning: Tuning, minutes: bool, e: i64) -> i64
+    requires { Tuned tuning × (nat_abs e ≤ 131070) }
+    ensures { result ≡ round_to 262144 (exact_i (factor_of tuning.gain) tuning.period tuning.reset minutes e) }
 {
+    let reset = tuning.reset;
     if reset == 9999 {
         return 0;
     }
-    let k = u64::from(c) * u64::from(period);
-    if minutes {
-        term(k, e, 6000 * u64::from(reset))
-    } else {
-        term(k, e, 100 * u64::from(reset))
-    }
+    let k = u64::from(factor(tuning.gain)) * u64::from(tuning.period);
+    let d = if minutes { 6000 } else { 100 };
+    term(k, e, d * u64::from(reset))
 }
 
 // D, of the PV's change: none at rate 0.
 #[tactic(auto, using(crate::specs::Terms::Laws::no_rate), unfolding(crate::specs::Terms::exact_d))]
-fn derivative(c: u16, rate: u16, period: u16, change: i64) -> i64
-    requires { (c ≤ 9999) × ((rate ≤ 9999) × ((0 < period) × (nat_abs change ≤ 131070))) }
-    ensures { result ≡ round_to 262144 (exact_d c rate period change) }
+fn derivative(tuning: Tuning, change: i64) -> i64
+    requires { Tuned tuning × (nat_abs change ≤ 131070) }
+    ensures { result ≡ round_to 262144 (exact_d (factor_of tuning.gain) tuning.rate tuning.period change) }
 {
+    let rate = tuning.rate;
     if rate == 0 {
         return 0;
     }
-    term(
-        u64::from(c) * u64::from(rate),
-        change,
-        100 * u64::from(period),
-    )
+    let k = u64::from(factor(tuning.gain)) * u64::from(rate);
+    term(k, change, 100 * u64::from(tuning.period))
 }
 
 // The three of a loop that acts directly.
@@ -87,11 +83,11 @@ fn direct_terms(tuning: Tuning, minutes: bool, inputs: Inputs) -> Terms
     requires { Tuned tuning × Bounded inputs }
     ensures { result ≡ terms_of tuning minutes false inputs }
 {
-    let c = factor(tuning.gain);
-    let p = proportional(tuning.gain, inputs.p);
-    let i = integral(c, tuning.period, tuning.reset, minutes, inputs.i);
-    let d = derivative(c, tuning.rate, tuning.period, inputs.d);
-    Terms { p, i, d }
+    Terms {
+        p: proportional(tuning, inputs.p),
+        i: integral(tuning, minutes, inputs.i),
+        d: derivative(tuning, inputs.d),
+    }
 }
 
 // Reverse acting changes the sign of all three.
