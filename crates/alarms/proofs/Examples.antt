@@ -5,6 +5,8 @@ use Prim.Native.Nat.{ℕ}
 use mathlib.Core.Path.{◌≡◌, refl}
 use mathlib.Core.Bool.{true, false}
 use mathlib.Core.List.{List, [], ◌∷◌}
+use Rattle.std.specs.Prelude.{Some}
+use Rattle.std.specs.Bool.{then_some}
 use Rattle.computed.specs.Cases.Laws.{together, in_parts}
 use Rattle.computed.specs.Cases.{Case, ◌∶◌gives◌, failing}
 use Rattle.numbers.specs.Distances.{apart}
@@ -54,7 +56,7 @@ one n = n ∷ []
 
 -- setpoint, PV, last PV; the output is inside its limits
 seen_at : ℕ → ℕ → ℕ → Seen
-seen_at s p last = record { pv = p; setpoint = s; last = last; sampled = true; output = 2000 }
+seen_at s p last = record { pv = p; setpoint = s; last = Some last; output = 2000 }
 
 -- ---- single bits of mode 1
 
@@ -78,7 +80,7 @@ change mode last stored = one (status mode 0x4000 usual stored (seen_at 2000 100
 
 -- the first accepted sample: bits of mode 1, word 6 before, PV and last PV. The setpoint is 2,000
 first : Mode → ℕ → ℕ → ℕ → ℕ → List ℕ
-first mode bits stored p last = one (status mode bits usual stored (record { pv = p; setpoint = 2000; last = last; sampled = false; output = 2000 }))
+first mode bits stored p last = one (status mode bits usual stored (record { pv = p; setpoint = 2000; last = then_some false last; output = 2000 }))
 
 -- bits of mode 1 and limits; setpoint, PV and last PV are 1,000
 settings : Mode → ℕ → AlarmLimits → List ℕ
@@ -86,12 +88,12 @@ settings mode bits l = one (status mode bits l 0 (seen_at 1000 1000 1000))
 
 -- nothing is watched: word 5 as written, setpoint, PV
 output : Mode → ℕ → ℕ → ℕ → List ℕ
-output mode out s p = one (status mode 0 usual 0 (record { pv = p; setpoint = s; last = p; sampled = true; output = out }))
+output mode out s p = one (status mode 0 usual 0 (record { pv = p; setpoint = s; last = Some p; output = out }))
 
 -- every alarm in Automatic: word 6 before
 full : ℕ → List ℕ
 full stored =
-    one (status Automatic 0x7000 (limits 4000 4000 10 10 50 40 30 10) stored (record { pv = 100; setpoint = 1000; last = 0; sampled = true; output = 500 }))
+    one (status Automatic 0x7000 (limits 4000 4000 10 10 50 40 30 10) stored (record { pv = 100; setpoint = 1000; last = Some 0; output = 500 }))
 
 -- two samples, the second with bits 12 and 13 in Automatic: mode and mode 1 of the first, word 6 before it, setpoint and PV of both
 twice : Mode → ℕ → ℕ → ℕ → ℕ → List ℕ

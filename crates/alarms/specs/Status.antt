@@ -1,5 +1,5 @@
 -- The status word, bit by bit (B1 to B8). Sums stand in the place of differences, so nothing wraps (B3).
-use Rattle.std.specs.Prelude.{ℕ, ◌+◌, ◌*◌, Bool, cond, not, ◌&&◌, ◌||◌, List, [], ◌∷◌, ltb, eqb}
+use Rattle.std.specs.Prelude.{ℕ, ◌+◌, ◌*◌, Bool, false, cond, not, ◌&&◌, ◌||◌, List, [], ◌∷◌, Option, None, Some, ltb, eqb}
 use Rattle.numbers.specs.Distances.{apart}
 use Rattle.table.specs.declared.mode.Mode.{Mode}
 use Rattle.reading.specs.declared.settings.Mode1.{Mode1}
@@ -19,6 +19,11 @@ high_alarm was limit hysteresis x = ltb limit x || (was && ltb limit (x + hyster
 -- B2: on where x is smaller than the limit. B3: one that was on stays while x is smaller than limit + hysteresis
 abbrev pub low_alarm : Bool → ℕ → ℕ → ℕ → Bool
 low_alarm was limit hysteresis x = ltb x limit || (was && ltb x (limit + hysteresis))
+
+-- B5: on where the PV is off the recorded last one by more than the limit; off where none is recorded, at the first accepted sample
+abbrev pub rate_alarm : ℕ → ℕ → Option ℕ → Bool
+rate_alarm limit pv None = false
+rate_alarm limit pv (Some last) = ltb limit (apart pv last)
 
 -- B6: bit 10, where the settings of watched alarms contradict each other
 abbrev pub unordered : Mode1 → AlarmLimits → Bool
@@ -71,7 +76,7 @@ status_of mode bits l output stored seen =
       levels = levels_of bits.level l stored seen.pv;
       yellow = bits.deviation && not (is_manual mode) && high_alarm (bit 7 stored) l.yellow l.hysteresis deviation;
       red = bits.deviation && not (is_manual mode) && high_alarm (bit 8 stored) l.red l.hysteresis deviation;
-      change = bits.change && seen.sampled && ltb l.change (apart seen.pv seen.last);
+      change = bits.change && rate_alarm l.change seen.pv seen.last;
       fault = unordered bits l;
       saturated = at_limit (is_manual mode) output seen.output seen.setpoint seen.pv;
     }

@@ -1,10 +1,11 @@
 // The status word and its twelve bits.
-ghost use Rattle.std.specs.Prelude.{◌≡◌, cond};
+ghost use Rattle.std.specs.Prelude.{◌≡◌, cond, ◌/◌, ◌%◌, ◌<◌, ◌==◌};
 ghost use Rattle.numbers.specs.Distances.{apart};
-ghost use Rattle.alarms.specs.Status.{bits_word, bits_of, status_of};
+ghost use Rattle.table.specs.Words.{flag_of};
+ghost use Rattle.alarms.specs.Status.{high_alarm, low_alarm, bits_word, bits_of, status_of};
 ghost use Rattle.alarms.specs.Sums.{Valued, mode_bit, level_bits, deviation_bits};
 
-use crate::alarm::{contradiction, high_alarm, low_alarm, saturated};
+use crate::alarm::{contradiction, high_alarm, low_alarm, rate_alarm, saturated};
 use reading::{AlarmLimits, Mode1, OutputLimits};
 use table::{Mode, flag};
 
@@ -13,8 +14,7 @@ use table::{Mode, flag};
 pub struct Seen {
     pub pv: u16,
     pub setpoint: u16,
-    pub last: u16, // the recorded last PV
-    pub sampled: bool, // whether one was recorded: not at the first accepted sample
+    pub last: Option<u16>, // the recorded last PV; none at the first accepted sample
     pub output: u16, // word 5 as written
 }
 
@@ -29,20 +29,62 @@ fn mode_bit(mode: Mode) -> u16
     }
 }
 
+// What alarms with a hold go by: word 6 before the sample, the hysteresis, and the number that is watched.
+#[derive(Clone, Copy)]
+struct Watched {
+    stored: u16,
+    hysteresis: u16,
+    x: u16,
+}
+
+impl Watched {
+    // Whether the alarm was on: its bit, of the value `bit`.
+    fn was(self, bit: u16) -> bool
+        requires { 0 < bit }
+        ensures { result ≡ (self.stored / bit % 2 == 1) }
+    {
+        self.stored / bit % 2 == 1
+    }
+
+    // B2, B3: the value of a low alarm's bit, where it is on.
+    fn low(self, bit: u16, limit: u16) -> u16
+        requires { 0 < bit }
+        ensures { Valued result (flag_of (low_alarm (self.stored / bit % 2 == 1) limit self.hysteresis self.x) bit) bit }
+    {
+        flag(
+            low_alarm(self.was(bit), limit, self.hysteresis, self.x),
+            bit,
+        )
+    }
+
+    // B2 to B4: of a high one.
+    fn high(self, bit: u16, limit: u16) -> u16
+        requires { 0 < bit }
+        ensures { Valued result (flag_of (high_alarm (self.stored / bit % 2 == 1) limit self.hysteresis self.x) bit) bit }
+    {
+        flag(
+            high_alarm(self.was(bit), limit, self.hysteresis, self.x),
+            bit,
+        )
+    }
+}
+
 // B2, B3: bits 3 to 6, where the PV is watched. `stored` is the status word before the sample.
 fn level_bits(on: bool, limits: AlarmLimits, stored: u16, pv: u16) -> u16
     ensures { Valued result (cond on (level_bits limits stored pv) 0) 120 }
 {
-    if on {
-        let hysteresis = limits.hysteresis;
-        let lowlow = low_alarm(stored / 8 % 2 == 1, limits.lowlow, hysteresis, pv);
-        let low = low_alarm(stored / 16 % 2 == 1, limits.low, hysteresis, pv);
-        let high = high_alarm(stored / 32 % 2 == 1, limits.high, hysteresis, pv);
-        let highhigh = high_alarm(stored / 64 % 2 == 1, limits.highhigh, hysteresis, pv);
-        flag(lowlow, 8) + flag(low, 16) + flag(high, 32) + flag(highhigh, 64)
-    } else {
-        0
+    if !on {
+        return 0;
     }
+    let level = Watched {
+        stored,
+        hysteresis: limits.hysteresis,
+        x: pv,
+    };
+    level.low(8, limits.lowlow)
+        + level.low(16, limits.low)
+        + level.high(32, limits.high)
+        + level.high(64, limits.highhigh)
 }
 
 // B4, B3: bits 7 and 8, where the deviation is watched.
@@ -50,18 +92,20 @@ fn level_bits(on: bool, limits: AlarmLimits, stored: u16, pv: u16) -> u16
 fn deviation_bits(on: bool, limits: AlarmLimits, stored: u16, setpoint: u16, pv: u16) -> u16
     ensures { Valued result (cond on (deviation_bits limits stored (apart setpoint pv)) 0) 384 }
 {
-    if on {
-        let hysteresis = limits.hysteresis;
-        let deviation = setpoint.abs_diff(pv);
-        let yellow = high_alarm(stored / 128 % 2 == 1, limits.yellow, hysteresis, deviation);
-        let red = high_alarm(stored / 256 % 2 == 1, limits.red, hysteresis, deviation);
-        flag(yellow, 128) + flag(red, 256)
-    } else {
-        0
+    if !on {
+        return 0;
     }
+    let deviation = Watched {
+        stored,
+        hysteresis: limits.hysteresis,
+        x: setpoint.abs_diff(pv),
+    };
+    deviation.high(128, limits.yellow) + deviation.high(256, limits.red)
 }
 
-// Word 6 after a sample: `mode` is the one of A2, `stored` the word before the sample.
+// Word 6 after a sample: `mode` is the one of A2, `stored` the word before the sample. It takes the parts that it
+// reads of the settings: to take them whole would ask more of a caller.
+#[tactic(auto, using(crate::specs::Sums::Laws::word_sum))]
 pub fn status_word(
     mode: Mode,
     bits: Mode1,
@@ -73,21 +117,12 @@ pub fn status_word(
     ensures { result ≡ bits_word (bits_of (status_of mode bits limits output stored seen)) }
 {
     let manual = mode.is_manual();
-    let levels = level_bits(bits.level, limits, stored, seen.pv);
-    let deviations = deviation_bits(
-        bits.deviation & !manual,
-        limits,
-        stored,
-        seen.setpoint,
-        seen.pv,
-    );
-    let change = seen.pv.abs_diff(seen.last);
-    let fault = contradiction(bits, limits);
-    let limited = saturated(manual, output, seen.output, seen.setpoint, seen.pv);
+    let deviating = bits.deviation & !manual;
+    let changing = bits.change & rate_alarm(limits.change, seen.pv, seen.last);
     mode_bit(mode)
-        + levels
-        + deviations
-        + flag(bits.change & seen.sampled & (limits.change < change), 512)
-        + flag(fault, 1024)
-        + flag(limited, 2048)
+        + level_bits(bits.level, limits, stored, seen.pv)
+        + deviation_bits(deviating, limits, stored, seen.setpoint, seen.pv)
+        + flag(changing, 512)
+        + flag(contradiction(bits, limits), 1024)
+        + flag(saturated(manual, output, seen), 2048)
 }

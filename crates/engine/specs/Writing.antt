@@ -1,5 +1,6 @@
 -- What a sample writes: A10 to A12, eight words and the record that the loop carries on.
 use Rattle.std.specs.Prelude.{ℕ, ◌+◌, Bool, true, cond, ◌||◌, List, set, ℤ, pos, nat_abs}
+use Rattle.std.specs.Bool.{then_some}
 use Rattle.numbers.specs.Limits.{clampℤ}
 use Rattle.numbers.specs.Rounding.{units_of, nearest_count}
 use Rattle.reading.specs.declared.reading.Reading.{Reading}
@@ -21,11 +22,11 @@ output_word manual held output = cond manual held (nearest_count (nat_abs output
 unfoldable pub bias_word : Bool → ℕ → ℕ → ℤ → ℕ
 bias_word kept stored G bias = cond kept stored (nearest_count (nat_abs (clampℤ bias (pos 0) (pos (units_of G)))))
 
--- B1 to B8: word 6, with p and s of A1 to A4 and the last PV as it was carried
+-- B1 to B8: word 6, with p and s of A1 to A4 and the last PV as it was carried, where a sample was accepted
 unfoldable pub status_word : Reading → Carried → Sensed → ℕ → ℕ
 status_word r c x output =
     let s = r.settings in
-    let seen : Seen = record { pv = x.pv; setpoint = x.setpoint; last = c.past.last; sampled = c.sampled; output = output } in
+    let seen : Seen = record { pv = x.pv; setpoint = x.setpoint; last = then_some c.sampled c.past.last; output = output } in
     bits_word (bits_of (status_of r.mode s.mode1 s.alarms s.limits s.stored.status seen))
 
 -- A12: the eight words: mode 1 with its requests off (A2), setpoint (A3, A4, G3), PV (A11), bias and output (A10), status (B1 to B8), and of the

@@ -86,8 +86,7 @@ fn status_after(reading: Reading, carried: Carried, sensed: Sensed, output: u16)
         Seen {
             pv: sensed.pv,
             setpoint: sensed.setpoint,
-            last: carried.past.last,
-            sampled: carried.sampled,
+            last: carried.sampled.then_some(carried.past.last),
             output,
         },
     )

@@ -1,5 +1,5 @@
 -- The sum of the groups is the word of the twelve bits.
-use Rattle.std.specs.Prelude.{ℕ, ◌+◌, ◌*◌, ◌≡◌, refl, Bool, true, false, cond, not, ◌&&◌, ltb}
+use Rattle.std.specs.Prelude.{ℕ, ◌+◌, ◌*◌, ◌≡◌, refl, Bool, true, false, cond, not, ◌&&◌}
 use Rattle.std.proofs.Common.{arith}
 use Rattle.table.specs.declared.mode.Mode.{Mode}
 use Rattle.table.specs.declared.mode.Mode.TheVariants.{Manual, Automatic, Cascade}
@@ -10,7 +10,7 @@ use Rattle.table.specs.Words.{flag_of}
 use Rattle.table.specs.Modes.{is_manual, is_automatic, is_cascade}
 use Rattle.alarms.specs.declared.status.Seen.{Seen}
 use Rattle.numbers.specs.Distances.{apart}
-use Rattle.alarms.specs.Status.{unordered, at_limit, levels_of, status_of, number, bits_word, bits_of}
+use Rattle.alarms.specs.Status.{rate_alarm, unordered, at_limit, levels_of, status_of, number, bits_word, bits_of}
 use Rattle.alarms.specs.Sums.{mode_bit, level_bits, deviation_bits}
 
 -- each group, by the numbers of its bits; what is not monitored has none
@@ -40,7 +40,7 @@ pub word_sum :
     → mode_bit mode
     + cond bits.level (level_bits l stored seen.pv) 0
     + cond (bits.deviation && not (is_manual mode)) (deviation_bits l stored (apart seen.setpoint seen.pv)) 0
-    + flag_of (bits.change && seen.sampled && ltb l.change (apart seen.pv seen.last)) 512
+    + flag_of (bits.change && rate_alarm l.change seen.pv seen.last) 512
     + flag_of (unordered bits l) 1024
     + flag_of (at_limit (is_manual mode) output seen.output seen.setpoint seen.pv) 2048
     ≡ bits_word (bits_of (status_of mode bits l output stored seen))
