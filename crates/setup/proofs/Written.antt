@@ -5,17 +5,27 @@ use mathlib.Core.Path.{◌≡◌, refl, sym, ap, ◌∙◌}
 use mathlib.Core.List.{List}
 use lib.IntN.{ℤ}
 use lib.ListN.{length}
-use Rattle.std.proofs.Common.{length-take-le, Result, Ok, Err}
+use Rattle.std.proofs.Common.{length-take-le, true, Result, Ok, IsOk}
 use lib.Seq.{sets, length-sets}
 use borrow.Author.Tests.{lt-ltb, le-ltb}
 use Rattle.streams.specs.Counts.{IsPrefixLen}
 use Rattle.text.specs.Text.{Written}
 use Rattle.refusals.specs.declared.Refusal.{Refusal}
-use Rattle.desk.specs.Desk.{lent, reset_desk}
+use Rattle.desk.specs.Desk.{Desk, lent, fitting_of, reset_desk, reset_answer}
+use Rattle.desk.proofs.Laws.Desk.{reset_fits}
 use Rattle.setups.specs.Setup.{setup_of, setup_answer, setup_left}
 use Rattle.setups.proofs.Laws.Setup.{setup_short, setup_fits}
-use Rattle.session.specs.Session.{left_of}
+use Rattle.session.specs.Session.{left_of, ended_of}
 use Rattle.setup.specs.Handing.{written_of}
+
+-- memory that has its lengths is reset, and any file is run on what that leaves
+pub reset_taken : (d : Desk) → fitting_of d ≡ true → IsOk (reset_answer d)
+unfolding reset_answer
+reset_taken d fit = rw fit refl
+
+pub run_taken : (file : List ℕ) → IsOk (ended_of file reset_desk)
+unfolding ended_of
+run_taken file = rw reset_fits refl
 
 prefix : (n : ℕ) (xs : List ℕ) → n ≤ length xs → IsPrefixLen n xs
 prefix n xs h = (h, sym (length-take-le n xs h))

@@ -22,8 +22,8 @@ pub(crate) fn hand_on(file: &[u8], out: &mut [u8]) -> usize
     let mut words = [0u16; WORDS];
     let mut numbers = [0i64; NUMBERS];
     let mut answers = [0u8; 1]; // the answers to the records are not kept
-    desk::reset(&mut words, &mut numbers);
-    session::run(file, &mut words, &mut numbers, &mut answers);
-    // Never refused: the words are 1,024, and there is room for any of them.
+    // Nothing is refused: the memory is a desk's, and there is room for any of its words.
+    desk::reset(&mut words, &mut numbers).unwrap();
+    session::run(file, &mut words, &mut numbers, &mut answers).unwrap();
     setups::write_setup(&words, out).unwrap()
 }

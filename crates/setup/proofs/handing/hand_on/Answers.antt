@@ -1,7 +1,8 @@
 -- `setup::handing::hand_on` meets its contract: the desk is fresh from a reset, the run leaves its words, and the writer has room for them.
-use Rattle.std.proofs.Common.{arith, ◌∙◌, rules}
+use Rattle.std.proofs.Common.{arith, refl, ◌∙◌, rules}
+use Rattle.desk.specs.Desk.{fitting_of}
 use Rattle.desk.proofs.Laws.Desk.{reset_fresh}
-use Rattle.setup.proofs.Written.{too_long, Handed, handed, written}
+use Rattle.setup.proofs.Written.{reset_taken, run_taken, too_long, Handed, handed, written}
 use Rattle.setup.proofs.handing.hand_on.Goals as goal
 use Rattle.setup.proofs.handing.hand_on.Goals.{After-write_setup}
 
@@ -15,3 +16,18 @@ done w =
 pub returns-then-file-gt-LONGEST-clause-text : goal.returns-then-file-gt-LONGEST-clause-text
 returns-then-file-gt-LONGEST-clause-text c = (too_long c.args.file.now c.args.out.now (omega (arith, c.if-file-gt-LONGEST.true))).0
 
+pub unwrap-requires : goal.unwrap-requires
+unfolding fitting_of
+unwrap-requires c = rw c.reset.ensures.answer (reset_taken _ refl)
+
+pub unwrap-requires-2 : goal.unwrap-requires-2
+unwrap-requires-2 c = rw (c.run.ensures.ended, c.reset.ensures.left ∙ reset_fresh) (run_taken _)
+
+pub unwrap-requires-3 : goal.unwrap-requires-3
+unwrap-requires-3 c = rw (done (goal.at.unwrap-requires-3 c).After-write_setup).answer refl
+
+pub returns-clause-text : goal.returns-clause-text
+returns-clause-text c = (written _ _ _ (done (goal.at.returns-clause-text c).After-write_setup) _ c.unwrap-3.ensures).0
+
+pub returns-clause-within : goal.returns-clause-within
+returns-clause-within c = (written _ _ _ (done (goal.at.returns-clause-within c).After-write_setup) _ c.unwrap-3.ensures).1
