@@ -26,7 +26,7 @@ pub enum Record {
 }
 
 // A record, or why it is refused, and the position behind it.
-#[derive(Clone, Copy)]
+#[derive(Clone, Copy, Debug, PartialEq, Eq)]
 pub struct Step {
     pub item: Result<Record, Refusal>,
     pub next: usize,

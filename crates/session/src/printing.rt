@@ -30,7 +30,14 @@ fn transcript(file: &[u8], words: &mut [u16], numbers: &mut [i64], out: &mut [u8
         let acted = act(item, words, numbers);
         count += 1;
         refused += usize::from(acted.is_err());
-        place = put_line(out, place, count, item, number_in(acted), acted.unwrap_or([0; 4]));
+        place = put_line(
+            out,
+            place,
+            count,
+            item,
+            number_in(acted),
+            acted.unwrap_or([0; 4]),
+        );
     }
     put_last(out, place, count, refused)
 }

@@ -15,7 +15,7 @@ pub struct Totals {
     pub refused: usize,
 }
 
-// An answer kept at its place, where there is one.
+// An answer kept at its place, where there is one. A test and an index: of a slice's `get_mut` no clause says what element it lends.
 fn keep(answers: &mut [u8], at: usize, number: u8)
     ensures { answers.new ≡ set answers.old at number }
 {

@@ -1,6 +1,6 @@
 -- `session::carry_all` meets its contract: the records left lead from the state reached to where all records lead.
 use native.Mathlib.Omega.{arith}
-use mathlib.Core.Path.{ap, ◌∙◌}
+use mathlib.Core.Path.{◌∙◌}
 use Rattle.session.proofs.Loops.{counts, few, end, answer, end_answering}
 use Rattle.session.proofs.running.carry_all.Goals as goal
 
