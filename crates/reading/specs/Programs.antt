@@ -1,5 +1,6 @@
 -- A loop's ramp/soak program (G1, G2): the table that word 28 points to, and what a sample reads of it.
 use Rattle.std.specs.Prelude.{ℕ, zero, suc, ◌+◌, ◌-◌, ◌*◌, ◌/◌, Bool, true, false, cond, ◌||◌, List, get_or, ltb, eqb}
+use Rattle.std.specs.Simd.{first_chunks}
 use Rattle.reading.specs.declared.program.Pair.{Pair}
 use Rattle.reading.specs.declared.program.Program.{Program}
 use Rattle.table.specs.Words.{bcd, bad_digit, block_at}
@@ -16,6 +17,10 @@ pair_at table i = record {
   duration = bcd (get_or table (4 * i + 2) 0);
   deviation = get_or table (4 * i + 3) 0;
 }
+
+-- G1: the eight pairs of a table, each of four words
+unfoldable pub pairs_of : List ℕ → List (List ℕ)
+pairs_of table = first_chunks 4 8 table
 
 -- G1: segments 2i + 1 and 2i + 2 are pair i
 abbrev pub pair_number : ℕ → ℕ

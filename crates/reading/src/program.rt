@@ -1,11 +1,12 @@
 // A loop's ramp/soak program: what a sample reads of the profile's table, which word 28 points to (G1, G2).
-ghost use Rattle.std.specs.Prelude.{◌≡◌, ◌+◌, ◌≤◌, ◌<◌, length};
-ghost use Rattle.table.specs.Words.{block_at};
-ghost use Rattle.reading.specs.Programs.{fault_of, pair_at, pair_number, bad_digit_in, high_end_in, no_program, program_of};
+ghost use Rattle.std.specs.List.{list_any};
+ghost use Rattle.std.specs.Prelude.{take, drop, get_or, ltb, ◌||◌, ◌≡◌, ◌+◌, ◌≤◌, ◌<◌, length};
+ghost use Rattle.table.specs.Words.{block_at, bad_digit};
+ghost use Rattle.reading.specs.Programs.{fault_of, pair_at, pairs_of, pair_number, bad_digit_in, high_end_in, no_program, program_of};
 
 use table::{
-    DEVIATION, DURATION, END, FIRST_TABLE, LAST_TABLE, PAIR_WORDS, PAIRS, SLOPE, TABLE_WORDS,
-    bad_digit, decimal,
+    DEVIATION, DURATION, END, FIRST_TABLE, LAST_TABLE, PAIR_WORDS, SLOPE, TABLE_WORDS, bad_digit,
+    decimal,
 };
 
 // A ramp and the soak behind it: segments 2i + 1 and 2i + 2.
@@ -27,6 +28,7 @@ pub struct Program {
 }
 
 // G2: what is wrong with a table's address: 1 below, 2 above, else 0.
+#[tactic(auto, unfolding(crate::specs::Programs::fault_of))]
 fn fault_of(at: u16) -> u16
     ensures { result ≡ fault_of at }
 {
@@ -39,25 +41,42 @@ fn fault_of(at: u16) -> u16
     }
 }
 
-// G1: the 32 words of a table, handed out as that part of the words.
-pub fn table_at(words: &[u16], at: usize) -> &[u16]
+// The N words from an address on, as that part of the words.
+pub(crate) fn part<const N: usize>(words: &[u16], at: usize) -> &[u16; N]
+    requires { at + N ≤ length words.now }
+    ensures { result.now ≡ take N (drop at words.now) }
+{
+    (&words[at..at + N]).try_into().unwrap()
+}
+
+// G1: the 32 words of a table.
+pub fn table_at(words: &[u16], at: usize) -> &[u16; TABLE_WORDS]
     requires { at + 32 ≤ length words.now }
     ensures { result.now ≡ block_at words.now at }
 {
-    &words[at..at + TABLE_WORDS]
+    part(words, at)
+}
+
+// G1: the eight pairs of a table, each of four words.
+#[tactic(auto, unfolding(crate::specs::Programs::pairs_of))]
+fn pairs(table: &[u16; TABLE_WORDS]) -> &[[u16; PAIR_WORDS]]
+    ensures value { result.now ≡ pairs_of table.now }
+    ensures eight { length result.now ≡ 8 }
+{
+    table.as_chunks().0
 }
 
 // The i-th pair of a table, from 0.
-pub fn read_pair(table: &[u16], i: usize) -> Pair
-    requires { (length table.now ≡ 32) × (i < 8) }
+pub fn read_pair(table: &[u16; TABLE_WORDS], i: usize) -> Pair
+    requires { i < 8 }
     ensures { result ≡ pair_at table.now i }
 {
-    let first = PAIR_WORDS * i;
+    let pair = pairs(table)[i];
     Pair {
-        end: table[first + END],
-        slope: decimal(table[first + SLOPE]),
-        duration: decimal(table[first + DURATION]),
-        deviation: table[first + DEVIATION],
+        end: pair[END],
+        slope: decimal(pair[SLOPE]),
+        duration: decimal(pair[DURATION]),
+        deviation: pair[DEVIATION],
     }
 }
 
@@ -65,45 +84,27 @@ pub fn read_pair(table: &[u16], i: usize) -> Pair
 fn pair_number(segment: u8) -> usize
     ensures { result ≡ pair_number segment }
 {
-    if segment < 1 {
-        0
-    } else {
-        (segment as usize - 1) / 2
-    }
+    usize::from(segment).saturating_sub(1) / 2
 }
 
 // N7: one of the eight slopes and eight durations has a digit above 9.
-fn bad_digit_in(table: &[u16]) -> bool
-    requires { length table.now ≡ 32 }
-    ensures { result ≡ bad_digit_in table.now }
+fn bad_digit_in(table: &[u16; TABLE_WORDS]) -> bool
+    ensures { result ≡ list_any (λ pair. bad_digit (get_or pair 1 0) || bad_digit (get_or pair 2 0)) (pairs_of table.now) }
 {
-    let mut found = false;
-    let mut i = 0;
-    while i < PAIRS {
-        let slope = table[PAIR_WORDS * i + SLOPE];
-        let duration = table[PAIR_WORDS * i + DURATION];
-        found = found | (bad_digit(slope) | bad_digit(duration));
-        i += 1;
-    }
-    found
+    pairs(table)
+        .iter()
+        .any(|pair| bad_digit(pair[SLOPE]) | bad_digit(pair[DURATION]))
 }
 
 // N8: one of the eight ends is above full scale.
-fn high_end_in(table: &[u16], scale: u16) -> bool
-    requires { length table.now ≡ 32 }
-    ensures { result ≡ high_end_in scale table.now }
+fn high_end_in(table: &[u16; TABLE_WORDS], scale: u16) -> bool
+    ensures { result ≡ list_any (λ pair. ltb scale (get_or pair 0 0)) (pairs_of table.now) }
 {
-    let mut found = false;
-    let mut i = 0;
-    while i < PAIRS {
-        let end = table[PAIR_WORDS * i + END];
-        found = found | (scale < end);
-        i += 1;
-    }
-    found
+    pairs(table).iter().any(|pair| scale < pair[END])
 }
 
 // Bit 11 is off, or the address not good.
+#[tactic(auto, unfolding(crate::specs::Programs::no_program))]
 fn no_program(fault: u16) -> Program
     ensures { result ≡ no_program fault }
 {

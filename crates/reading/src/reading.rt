@@ -4,10 +4,10 @@ ghost use Rattle.table.specs.Words.{base_of};
 ghost use Rattle.reading.specs.Transfers.{transfers};
 ghost use Rattle.reading.specs.Reading.{mode_after, remote_of, reading_of};
 
-use crate::program::{Program, read_program};
+use crate::program::{Program, part, read_program};
 use crate::settings::{Mode1, Settings, read_settings};
 use crate::transfer::{Major, read_major};
-use table::{LOOP_WORDS, Mode, PROFILE_TABLE, base_of, word_at};
+use table::{Mode, PROFILE_TABLE, base_of, word_at};
 
 // What is read of the loop's past: its mode so far (A2, A13), and the carried segment (G1).
 #[derive(Clone, Copy)]
@@ -72,7 +72,7 @@ pub fn read_loop(words: &[u16], number: u8, former: Former) -> Reading
     ensures { result ≡ reading_of words.now number former }
 {
     let base = base_of(number);
-    let settings = read_settings(&words[base..base + LOOP_WORDS]);
+    let settings = read_settings(part(words, base));
     let bits = settings.mode1;
     let mode = mode_after(bits, former.mode);
     let remote = read_remote(words, mode, settings.pointer);

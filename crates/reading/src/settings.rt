@@ -3,9 +3,9 @@ ghost use Rattle.std.specs.Prelude.{◌≡◌, ◌≤◌, length};
 ghost use Rattle.reading.specs.Settings.{mode1_of, mode2_of, unused_bits, bad_digits, tuning_of, alarm_limits_of, stored_of, settings_of};
 
 use table::{
-    BIAS, CHANGE, DEADBAND, Format, GAIN, HIGH, HIGH_HIGH, HYSTERESIS, LOW, LOW_LOW, MODE_1,
-    MODE_2, OUTPUT, OUTPUT_HIGH, OUTPUT_LOW, PERIOD, POINTER, PROFILE_FAULT, PROFILE_FLAGS, RATE,
-    RED, RESET, SETPOINT, STATUS, YELLOW, bad_digit, decimal,
+    BIAS, CHANGE, DEADBAND, Format, GAIN, HIGH, HIGH_HIGH, HYSTERESIS, LOOP_WORDS, LOW, LOW_LOW,
+    MODE_1, MODE_2, OUTPUT, OUTPUT_HIGH, OUTPUT_LOW, PERIOD, POINTER, PROFILE_FAULT, PROFILE_FLAGS,
+    RATE, RED, RESET, SETPOINT, STATUS, YELLOW, bad_digit, decimal,
 };
 
 // M1: the bits of mode 1. Bit 15 has no use and stays as it is.
@@ -127,30 +127,29 @@ fn unused_bits(word: u16) -> bool
         | (!(word / 1024 % 2 == 1) & ((word / 4096 % 2 == 1) | (word / 8192 % 2 == 1)))
 }
 
+#[tactic(auto, unfolding(crate::specs::Settings::mode2_of))]
 fn read_mode2(word: u16) -> Mode2
     ensures { result ≡ mode2_of word }
 {
     let input = Format::new(word);
-    let output = Format::of_output(word, input);
-    let unused = unused_bits(word);
     Mode2 {
         input,
-        output,
+        output: Format::of_output(word, input),
         separate: word / 1024 % 2 == 1,
         minutes: word / 16 % 2 == 1,
-        unused,
+        unused: unused_bits(word),
     }
 }
 
-fn bad_digits(w: &[u16]) -> bool
-    requires { 32 ≤ length w.now }
+#[tactic(auto, unfolding(crate::specs::Settings::bad_digits))]
+fn bad_digits(w: &[u16; LOOP_WORDS]) -> bool
     ensures { result ≡ bad_digits w.now }
 {
     bad_digit(w[PERIOD]) | bad_digit(w[GAIN]) | bad_digit(w[RESET]) | bad_digit(w[RATE])
 }
 
-fn read_tuning(w: &[u16]) -> Tuning
-    requires { 32 ≤ length w.now }
+#[tactic(auto, unfolding(crate::specs::Settings::tuning_of))]
+fn read_tuning(w: &[u16; LOOP_WORDS]) -> Tuning
     ensures { result ≡ tuning_of w.now }
 {
     Tuning {
@@ -161,8 +160,7 @@ fn read_tuning(w: &[u16]) -> Tuning
     }
 }
 
-fn read_alarm_limits(w: &[u16]) -> AlarmLimits
-    requires { 32 ≤ length w.now }
+fn read_alarm_limits(w: &[u16; LOOP_WORDS]) -> AlarmLimits
     ensures { result ≡ alarm_limits_of w.now }
 {
     AlarmLimits {
@@ -177,8 +175,7 @@ fn read_alarm_limits(w: &[u16]) -> AlarmLimits
     }
 }
 
-fn read_stored(w: &[u16]) -> Stored
-    requires { 32 ≤ length w.now }
+fn read_stored(w: &[u16; LOOP_WORDS]) -> Stored
     ensures { result ≡ stored_of w.now }
 {
     Stored {
@@ -193,31 +190,22 @@ fn read_stored(w: &[u16]) -> Stored
 }
 
 // A loop's 32 words.
-pub(crate) fn read_settings(w: &[u16]) -> Settings
-    requires { 32 ≤ length w.now }
+#[tactic(auto, unfolding(crate::specs::Settings::settings_of))]
+pub(crate) fn read_settings(w: &[u16; LOOP_WORDS]) -> Settings
     ensures { result ≡ settings_of w.now }
 {
-    let first = w[MODE_1];
-    let second = w[MODE_2];
-    let low = w[OUTPUT_LOW];
-    let high = w[OUTPUT_HIGH];
-    let deadband = w[DEADBAND];
-    let pointer = w[POINTER];
-    let stored = read_stored(w);
-    let mode1 = read_mode1(first);
-    let mode2 = read_mode2(second);
-    let baddigit = bad_digits(w);
-    let tuning = read_tuning(w);
-    let alarms = read_alarm_limits(w);
     Settings {
-        stored,
-        mode1,
-        mode2,
-        baddigit,
-        tuning,
-        alarms,
-        limits: OutputLimits { low, high },
-        deadband,
-        pointer,
+        stored: read_stored(w),
+        mode1: read_mode1(w[MODE_1]),
+        mode2: read_mode2(w[MODE_2]),
+        baddigit: bad_digits(w),
+        tuning: read_tuning(w),
+        alarms: read_alarm_limits(w),
+        limits: OutputLimits {
+            low: w[OUTPUT_LOW],
+            high: w[OUTPUT_HIGH],
+        },
+        deadband: w[DEADBAND],
+        pointer: w[POINTER],
     }
 }

@@ -1,16 +1,18 @@
 -- The laws of a program: what it depends on, and what is known of the pair that is read where the table has passed its tests.
-use Rattle.std.specs.Prelude.{ℕ, zero, suc, ◌+◌, ◌*◌, ◌≤◌, ◌<◌, ◌≡◌, Bool, cond, ◌&&◌, ◌||◌, List, get_or, ltb}
+use Rattle.std.specs.Prelude.{ℕ, zero, suc, ◌+◌, ◌*◌, ◌≤◌, ◌<◌, ◌≡◌, Bool, cond, ◌&&◌, ◌||◌, List, [], get_or, take, drop, ltb}
 use native.Mathlib.Omega.{arith}
+use Rattle.std.specs.List.{list_any}
+use Rattle.std.specs.Simd.{first_chunks}
 use Rattle.std.proofs.Math.Path.{refl}
-use Rattle.std.proofs.Math.Bool.{true, false}
+use Rattle.std.proofs.Math.Bool.{true, false, or_assoc, or-false}
 use Rattle.std.proofs.Math.Dec.{eqb}
-use Rattle.std.proofs.Common.{eqb→eq, le-ltb, ltb-false, eqb-true}
+use Rattle.std.proofs.Common.{◌∙◌, ap, eqb→eq, le-ltb, ltb-false, eqb-true, get_or-take, get_or-drop}
 use Rattle.std.proofs.lemmas.Bool.{eqb-false}
 use Rattle.numbers.specs.Limits.Laws.{by_test}
 use Rattle.reading.specs.declared.program.Program.{Program}
 use Rattle.table.specs.Words.{bad_digit, block_at}
 use Rattle.table.specs.Words.Laws.{or_false, bcd_high}
-use Rattle.reading.specs.Programs.{fault_of, pair_at, pair_number, any_below, bad_digit_in, high_end_in, no_program, program_of}
+use Rattle.reading.specs.Programs.{fault_of, pair_at, pairs_of, pair_number, any_below, bad_digit_in, high_end_in, no_program, program_of}
 use Rattle.reading.specs.Premises.{Fair}
 
 -- ---- the tests of a table
@@ -38,6 +40,31 @@ pair_times table i h e =
 pub pair_end : (scale : ℕ) (table : List ℕ) (i : ℕ) → i < 8 → high_end_in scale table ≡ false → (pair_at table i).end ≤ scale
 unfolding high_end_in pair_at
 pair_end scale table i h e = ltb-false _ _ (none_below 8 (λ j. ltb scale (get_or table (4 * j + 0) 0)) e i h)
+
+in_part : (i : ℕ) → i < 4 → (words : List ℕ) → get_or (take 4 words) i 0 ≡ get_or words i 0
+in_part i h words = get_or-take 4 words i 0 h
+
+-- word j of pair i is word 4i + j of the table
+part_word : (n i j : ℕ) (words : List ℕ) → i < n → j < 4 → get_or (get_or (first_chunks 4 n words) i []) j 0 ≡ get_or words (4 * i + j) 0
+part_word zero i j words h k = absurd (omega arith)
+part_word (suc n) zero j words h k = let same : j ≡ 4 * 0 + j = omega arith in get_or-take 4 words j 0 k ∙ ap (λ (a : ℕ). get_or words a 0) same
+part_word (suc n) (suc i) j words h k =
+    let next : 4 + (4 * i + j) ≡ 4 * suc i + j = omega arith in
+    part_word n i j (drop 4 words) (omega arith) k ∙ get_or-drop 4 words (4 * i + j) 0 ∙ ap (λ (a : ℕ). get_or words a 0) next
+
+pub pair_word : (table : List ℕ) (i j : ℕ) → i < 8 → j < 4 → get_or (get_or (pairs_of table) i []) j 0 ≡ get_or table (4 * i + j) 0
+unfolding pairs_of
+pair_word table i j h k = part_word 8 i j table h k
+
+-- the words that the tests read are those of the pairs
+pub ends_by_pair : (scale : ℕ) (table : List ℕ) → high_end_in scale table ≡ list_any (λ pair. ltb scale (get_or pair 0 0)) (pairs_of table)
+unfolding high_end_in any_below pairs_of
+ends_by_pair scale table = simp (in_part 0 (omega arith), get_or-drop, or_assoc, or-false)
+
+pub digits_by_pair : (table : List ℕ)
+    → bad_digit_in table ≡ list_any (λ pair. bad_digit (get_or pair 1 0) || bad_digit (get_or pair 2 0)) (pairs_of table)
+unfolding bad_digit_in any_below pairs_of
+digits_by_pair table = simp (in_part 1 (omega arith), in_part 2 (omega arith), get_or-drop, or_assoc, or-false)
 
 -- ---- a program
 

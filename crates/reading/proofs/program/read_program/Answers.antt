@@ -1,32 +1,15 @@
 -- `reading::read_program` meets its contract: the tests pick the definition's case, and what is handed out is the table.
 use Rattle.std.proofs.Common.{◌≡◌, ◌∙◌, ℕ, ◌+◌, ◌≤◌, List, length, sym, arith, eq-eqb, ne_eqb}
-use Rattle.table.specs.Words.{block_at}
-use Rattle.table.specs.Words.Laws.{block_length}
 use Rattle.reading.specs.Programs.{fault_of, program_of}
-use Rattle.reading.proofs.Laws.Programs.{good_address}
+use Rattle.reading.proofs.Laws.Programs.{good_address, digits_by_pair, ends_by_pair}
 use Rattle.reading.proofs.program.read_program.Goals as goal
 
 -- a good address has a table inside the words
 inside : (words : List ℕ) (at : ℕ) → fault_of at ≡ 0 → 1024 ≤ length words → at + 32 ≤ length words
 inside words at good long = omega (arith, good_address at good)
 
-size : (words : List ℕ) (at : ℕ) (table : List ℕ) → fault_of at ≡ 0 → 1024 ≤ length words → table ≡ block_at words at → length table ≡ 32
-size words at table good long e = rw e (block_length words at (inside words at good long))
-
 pub table_at-table-requires : goal.table_at-table-requires
 table_at-table-requires c = inside _ _ (sym c.fault_of-fault.ensures ∙ c.if-fault-eq0.true) c.requires.0
-
-pub bad_digit_in-requires : goal.bad_digit_in-requires
-bad_digit_in-requires c =
-    size c.args.words.now c.args.at _ (sym c.fault_of-fault.ensures ∙ c.if-fault-eq0.true) c.requires.0 c.table_at-table.ensures
-
-pub high_end_in-requires : goal.high_end_in-requires
-high_end_in-requires c =
-    size c.args.words.now c.args.at _ (sym c.fault_of-fault.ensures ∙ c.if-fault-eq0.true) c.requires.0 c.table_at-table.ensures
-
-pub read_pair-requires : goal.read_pair-requires
-read_pair-requires c =
-    (size c.args.words.now c.args.at _ (sym c.fault_of-fault.ensures ∙ c.if-fault-eq0.true) c.requires.0 c.table_at-table.ensures, omega arith)
 
 pub returns-then-fault-eq0 : goal.returns-then-fault-eq0
 unfolding program_of
@@ -40,6 +23,8 @@ returns-then-fault-eq0 c =
       c.high_end_in.ensures,
       c.bad_digit_in.ensures,
       c.table_at-table.ensures,
+      ends_by_pair,
+      digits_by_pair,
     )
 
 pub returns-else-fault-eq0 : goal.returns-else-fault-eq0

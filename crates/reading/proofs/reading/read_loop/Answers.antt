@@ -1,5 +1,4 @@
 -- `reading::read_loop` meets its contract, by those of the functions that it calls; the part lent to the first is 32 words long.
-use native.Mathlib.Nat.{add-sub_cancel_left}
 use Rattle.reading.specs.Reading.{reading_of}
 use Rattle.reading.proofs.reading.read_loop.Goals as goal
 
@@ -14,5 +13,5 @@ returns c =
       c.mode_after-mode.ensures,
       c.read_settings-settings.ensures,
       c.base_of-base.ensures,
-      add-sub_cancel_left,
+      c.part.ensures,
     )
