@@ -12,7 +12,6 @@ use refusals::Refusal;
 use table::{PROFILE_TABLE, base_of, word_at};
 
 // The samples that remain where there is a program; else 0.
-#[tactic(auto, using(table::specs::Words::Laws::block_length))]
 fn remaining(words: &[u16], number: u8, on: bool, period: u16, p: Profile, setpoint: u16) -> u64
     requires { (on ≡ true → table_of words.now number + 32 ≤ length words.now) × (p.segment ≤ 16) × (0 < period) }
     ensures { result ≡ cond on (forecast_of (block_at words.now (table_of words.now number)) period p setpoint) 0 }

@@ -1,11 +1,12 @@
 // The forecast (G12): how many samples remain of a profile. Each ramp hands over to its soak and each soak
 // to the next ramp; a segment's samples are counted by a division.
-ghost use Rattle.std.specs.Prelude.{◌≡◌, ◌*◌, ◌≤◌, ◌<◌, length};
+ghost use Rattle.std.specs.Prelude.{◌≡◌, ◌*◌, ◌≤◌, ◌<◌};
 ghost use Rattle.profile.specs.Forecasts.{count_of, ramps_from, soaks_from, forecast_of};
 
 use crate::moves::{SEGMENTS, TENTH_OF_A_MINUTE, parts};
 use crate::state::Profile;
 use reading::read_pair;
+use table::TABLE_WORDS;
 
 const SEGMENT_COUNT: usize = SEGMENTS as usize;
 
@@ -21,8 +22,8 @@ fn count(way: u32, step: u32) -> u64
 // The samples of the `left` last segments, of which a ramp is the first and begins at `at`.
 #[cycle(ramps_soaks)]
 #[tactic(auto, using(crate::proofs::Laws::Forecasts::one_segment))]
-fn ramps(table: &[u16], period: u16, at: u32, left: usize) -> u64
-    requires { (length table.now ≡ 32) × (left ≤ 16) × (0 < period) }
+fn ramps(table: &[u16; TABLE_WORDS], period: u16, at: u32, left: usize) -> u64
+    requires { (left ≤ 16) × (0 < period) }
     ensures equal { result ≡ ramps_from left table.now period at }
     ensures bounded { result ≤ left * 4294967296 }
 {
@@ -41,8 +42,8 @@ fn ramps(table: &[u16], period: u16, at: u32, left: usize) -> u64
 // The same, of which a soak is the first and has lasted `time`; the setpoint stands at `at`.
 #[cycle(ramps_soaks)]
 #[tactic(auto, using(crate::proofs::Laws::Forecasts::one_segment))]
-fn soaks(table: &[u16], period: u16, at: u32, time: u32, left: usize) -> u64
-    requires { (length table.now ≡ 32) × (left ≤ 16) × (0 < period) }
+fn soaks(table: &[u16; TABLE_WORDS], period: u16, at: u32, time: u32, left: usize) -> u64
+    requires { (left ≤ 16) × (0 < period) }
     ensures equal { result ≡ soaks_from left table.now period at time }
     ensures bounded { result ≤ left * 4294967296 }
 {
@@ -60,8 +61,8 @@ fn soaks(table: &[u16], period: u16, at: u32, time: u32, left: usize) -> u64
 
 // G12: the samples that remain of a profile, with the one that completes it; 0 where none runs.
 #[tactic(auto, unfolding(crate::specs::Forecasts::forecast_of))]
-pub fn forecast(table: &[u16], period: u16, p: Profile, setpoint: u16) -> u64
-    requires { (length table.now ≡ 32) × (p.segment ≤ 16) × (0 < period) }
+pub fn forecast(table: &[u16; TABLE_WORDS], period: u16, p: Profile, setpoint: u16) -> u64
+    requires { (p.segment ≤ 16) × (0 < period) }
     ensures { result ≡ forecast_of table.now period p setpoint }
 {
     if p.segment == 0 {

@@ -1,6 +1,6 @@
 -- `reading::read_pair` meets its contract: word j of pair i is word 4i + j of the table.
-use Rattle.std.proofs.Common.{ℕ, ◌<◌, ◌≡◌, ◌+◌, ◌*◌, get_or, List, [], arith}
-use Rattle.reading.specs.Programs.{pairs_of, pair_at}
+use Rattle.std.proofs.Common.{arith}
+use Rattle.reading.specs.Programs.{pair_at}
 use Rattle.reading.proofs.Laws.Programs.{pair_word}
 use Rattle.reading.proofs.program.read_pair.Goals as goal
 
