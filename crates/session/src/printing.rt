@@ -55,6 +55,7 @@ fn put_too_long(out: &mut [u8]) -> usize
 
 // Q6: the whole printed text, from the start of `out`. Answers how many bytes it is; 0, and nothing is
 // written, where `out` has less room than ten bytes for each byte of the input, and 100.
+#[tactic(auto, using(crate::proofs::Loops::printed), unfolding(crate::specs::Printed::printed_within, crate::specs::Printed::printed_of, desk::specs::Desk::reset_desk))]
 pub fn drill(input: &[u8], out: &mut [u8]) -> usize
     ensures printed { take result out.new ≡ printed_within (length out.old) input.now }
     ensures room { (result ≤ length out.new) × (result ≡ length (take result out.new)) }

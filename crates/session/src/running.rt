@@ -43,6 +43,7 @@ fn carry_all(file: &[u8], words: &mut [u16], numbers: &mut [i64], answers: &mut 
 // Q5: a file of any length. Where the memory does not have its lengths, nothing is read or written. Else
 // the answer to each record, 0 or its number of refusal, goes into `answers` in order, as far as there
 // is room.
+#[tactic(auto, unfolding(crate::specs::Session::ended_of, crate::specs::Session::left_of, crate::specs::Session::answers_of))]
 pub fn run(
     file: &[u8],
     words: &mut [u16],
