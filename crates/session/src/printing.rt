@@ -18,6 +18,7 @@ const OUTPUT: usize = 10 * LONGEST + 100; // what the longest prints
 
 // Every record of a file in turn, with its line, and the last line: from the start of `out`. Answers
 // how many bytes these are: at most ten for each byte of the file, and 100.
+#[tactic(auto, using(crate::proofs::Loops::few, crate::proofs::Loops::counts))]
 fn transcript(file: &[u8], words: &mut [u16], numbers: &mut [i64], out: &mut [u8]) -> usize
     requires { (length file.now ≤ 65536) × (10 * length file.now + 100 ≤ length out.old) }
     ensures written { Written out.old 0 (lines_of (begun (lent words.old numbers.old)) (records_of file.now)) out.new result }

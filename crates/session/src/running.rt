@@ -25,6 +25,7 @@ fn keep(answers: &mut [u8], at: usize, number: u8)
 }
 
 // Every record of a file in turn.
+#[tactic(auto, using(crate::proofs::Loops::few, crate::proofs::Loops::counts, crate::proofs::Loops::end, crate::proofs::Loops::end_answering))]
 fn carry_all(file: &[u8], words: &mut [u16], numbers: &mut [i64], answers: &mut [u8]) -> Totals
     ensures state_after { state words.new numbers.new result.count result.refused ≡ run_of (begun (lent words.old numbers.old)) (records_of file.now) }
     ensures answers_after { answers.new ≡ sets answers.old 0 (answers_for (lent words.old numbers.old) (records_of file.now)) }

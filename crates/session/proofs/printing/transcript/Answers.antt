@@ -1,22 +1,11 @@
 -- `session::transcript` meets its contract: the lines of the records left, written at the place reached, would complete the text.
-use native.Mathlib.Omega.{arith}
 use mathlib.Core.Path.{refl, ap, ◌∙◌}
-use lib.ListN.{length}
 use Rattle.reader.specs.File.{records_left}
-use Rattle.session.proofs.Loops.{counts, few, start_telling, tell, end_telling}
+use Rattle.session.proofs.Loops.{start_telling, tell, end_telling}
 use Rattle.session.proofs.printing.transcript.Goals as goal
 
 pub loop-item-init : goal.loop-item-init
 loop-item-init c = (tt, (tt, (start_telling _ _ _ _ (ap records_left c.into_iter-item-iterator.ensures.into_iter_gives ∙ c.read_records-item-items.ensures), (refl, refl))))
-
-pub overflow_add-count : goal.overflow_add-count
-overflow_add-count c = omega (arith, few _ _ _ c.loop-item.invariant.1.1.0.going)
-
-pub overflow_add-refused : goal.overflow_add-refused
-overflow_add-refused c = omega (arith, few _ _ _ c.loop-item.invariant.1.1.0.going, c.loop-item.invariant.1.1.0.going.fewer, counts c.is_err.result c.from-refused.ensures)
-
-pub put_line-place-requires : goal.put_line-place-requires
-put_line-place-requires c = let i = c.loop-item.invariant.1.1.0 in omega (arith, few _ _ _ i.going, i.going.all, i.most, i.same, c.requires, ap length c.in-Some.ensures.steps)
 
 pub loop-item-preserved : goal.loop-item-preserved
 loop-item-preserved c =
@@ -33,10 +22,5 @@ loop-item-preserved c =
       ),
     )
 
-pub returns : goal.returns
-returns c =
-    let i = c.loop-item.invariant.1.1.0 in
-    record {
-      written = end_telling _ _ _ _ i c.in-None.ensures.steps.0 c.put_last.ensures.written;
-      upper_bound = omega (arith, c.put_last.ensures.upper_bound, i.most);
-    }
+pub returns-clause-written : goal.returns-clause-written
+returns-clause-written c = end_telling _ _ _ _ c.loop-item.invariant.1.1.0 c.in-None.ensures.steps.0 c.put_last.ensures.written
