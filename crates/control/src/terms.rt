@@ -32,6 +32,7 @@ fn factor(gain: u16) -> u16
 }
 
 // k × e / d, rounded to the nearest unit.
+#[tactic(auto, using(numbers::proofs::Machine::read_back, crate::specs::Terms::Laws::term_is))]
 fn term(k: u64, e: i64, d: u64) -> i64
     requires { (k ≤ 9999 * 9999) × ((nat_abs e ≤ 131070) × ((0 < d) × (d < 2 ^ 62))) }
     ensures { result ≡ round_to 262144 (over (pos k *ℤ e) d) }

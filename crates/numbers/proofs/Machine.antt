@@ -1,12 +1,12 @@
 -- From a bound on a magnitude to the range of 64 bits, of words to that of 32, and from what the machine reads back of a number's bits to the number itself.
 use mathlib.Core.Path.{◌≡◌, sym, subst, ◌∙◌}
-use mathlib.Core.Bool.{Bool, true, false, not}
+use mathlib.Core.Bool.{Bool, false, not}
 use Prim.Native.Nat.{ℕ, ◌+◌, ◌*◌, ◌^◌, ◌≤◌, ◌<◌}
 use native.Mathlib.Omega.{arith}
 use native.Mathlib.Nat.{mul-le-mul}
 use lib.Dec.{T}
 use lib.IntN.{ℤ, pos, negsuc, nat_abs, ◌-ℤ◌}
-use lib.Signed.{mag, lt_z, ◌≤ℤ◌, ◌<ℤ◌, lt_z_yes, lt_z_no}
+use lib.Signed.{mag, lt_z, ◌≤ℤ◌, lt_z_no}
 use mir.Syntax.{w64}
 use mir.Val.{SFits, to_z, of_z}
 use mir.Facts as F
@@ -36,14 +36,14 @@ word_product h l = mul-le-mul h l
 pub back : {z : ℤ} → SFits w64 z → to_z w64 (of_z w64 z) ≡ z
 back f = F.to_z-of_z f
 
+-- the same for `grind`: of any number that fits
+pub ruleset read_back = (F.to_z-of_z)
+
 -- of a call's result: `got c.f.result c.f.ok`
 pub got : (z : ℤ) → mag z < 2 ^ 63 → to_z w64 (of_z w64 z) ≡ z
 got z h = F.to_z-of_z {w = w64} (record { sfits = h })
 
--- ---- a test of `<`, passed and failed
-
-pub taken : {a b : ℤ} → lt_z a b ≡ true → a <ℤ b
-taken e = lt_z_yes (subst T (sym e) tt)
+-- ---- a test of `<` that failed
 
 pub left : {a b : ℤ} → lt_z a b ≡ false → b ≤ℤ a
 left e = lt_z_no (subst (λ (t : Bool). T (not t)) (sym e) tt)
