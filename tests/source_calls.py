@@ -6,13 +6,23 @@ Rattle-CRATE-proofs/MODULE/../FUNCTION/Code/Mir.antt, or ../+CYCLE/Code/+FUNCTIO
 reached. NAME is a function's whole name (`numbers::roots::root`), or its crate and its last part (`kexbardi_c::kexbardi_sample`).
 The names of the functions reached are printed, sorted, one a line; then `cycle: a -> b -> a`, for each call that lies on a cycle
 a shortest one with it; then `fault: ..` for a call that names no function, or none that is there, for a call through a pointer
-or a bound, and for a function's name that stands anywhere but in a call. The exit status is 0 without cycle and fault, 1 with
+or a vtable, and for a function's name that stands anywhere but in a call. The exit status is 0 without cycle and fault, 1 with
 one, 2 for wrong use or a text that cannot be read.
+
+A call at a bound is followed to the method that the caller handed for it, as a generic function runs it. A function of the
+kit's library (LIBRARY) may call back all that it is handed, closures and methods of an `impl`, so its caller is taken to call
+each of these itself. What the library's functions call among themselves is not in FOLDER: the walk of the code has it.
 """
 
 import pathlib
 import re
 import sys
+
+# The kit's library, by the names of its crates.
+LIBRARY = {"core", "std"}
+# Its functions that call nothing of what they are handed. This one answers (0, None), and an iterator hands itself to it.
+CALL_NOTHING = {"std::iter::Iterator::size_hint"}
+MOST = 200  # times that a function is followed, each with other methods for its bounds
 
 
 class Unreadable(Exception):
@@ -20,7 +30,8 @@ class Unreadable(Exception):
 
 
 # A function's name as a file has it: `use Rattle.numbers.proofs.units.Symbol as Symbol'`.
-NAMED = re.compile(r"^use Rattle\.([^\s.]+)\.(?:proofs|specs\.contracts)\.(\S+)\.(Symbol|Key)(?: as (\S+))?$")
+NAMED = re.compile(r"^use Rattle\.(?:[^\s.]+\.below\.)?([^\s.]+)\.(?:proofs|specs\.contracts)\.(\S+)\.(Symbol|Key)(?: as (\S+))?$")
+WORD = re.compile(r'"[^"]*"|[(),]|[^\s(),"]+')
 # What leads to code in another way than a direct call.
 LEADS = re.compile(r"\bSyntax\.(call_v|fn_addr|vtable|method|forked|awaited|prim)\b")
 
@@ -34,7 +45,7 @@ def whole_name(folder, file):
     if modules[-2:] == ["Code", "Mir.antt"]:
         return "::".join([crate[1], *modules[:-2]])
     if modules[-2:-1] == ["Code"] and modules[-3].startswith("+") and modules[-1].startswith("+"):
-        return "::".join([crate[1], *modules[:-3], modules[-1][1:-len(".antt")]])
+        return "::".join([crate[1], *modules[:-3], *modules[-1][1:-len(".antt")].split("-")])
     return None
 
 
@@ -50,40 +61,110 @@ def definitions(folder):
 
 
 def found_as(name, functions):
-    """A function by the name that other crates have for it: a library passes it on without its modules."""
+    """A function by the name that other crates have for it: a library passes it on without its modules. A closure's has `fn`."""
     if name in functions:
         return name
-    crate, last = name.split("::")[0], name.split("::")[-1]
-    fitting = [it for it in functions if it.startswith(f"{crate}::") and it.split("::")[-1] == last]
+    crate, _, path = name.partition("::")
+    fitting = [it for it in functions if it.startswith(f"{crate}::") and it.endswith(f"::{path}") and "fn" not in it.split("::")]
     if len(fitting) > 1:
         raise Unreadable(f"{name} may be any of {', '.join(fitting)}")
     return fitting[0] if fitting else None
 
 
-def calls_of(text, functions):
-    """The functions that a text calls, and what cannot be followed in it."""
-    calls, faults, named, lines = set(), [], {}, []
+def term(words, at):
+    """The term that begins there: a word, or the list of what its parentheses hold. And the place behind it."""
+    opened = [[]]
+    while True:
+        if words[at] == "(":
+            opened.append([])
+        else:
+            done = opened.pop() if words[at] == ")" else words[at]
+            opened[-1].append(done)
+        at += 1
+        if len(opened) == 1:
+            return opened[0][0], at
+
+
+def first_word(of):
+    while isinstance(of, list):
+        of = of[0] if of else ""
+    return of
+
+
+def pair(of):
+    """The two terms of `(a, b)`, as a text has it in one line or with a comma behind each."""
+    parts = [[]]
+    for word in of:
+        if word == ",":
+            parts.append([])
+        else:
+            parts[-1].append(word)
+    first, second = [part[0] if len(part) == 1 else part for part in parts if part]
+    return first, second
+
+
+def dictionary(of):
+    """What is handed for a bound: an `impl` as its methods' names and what it is handed for bounds of its own, else the bound's number."""
+    if of[0] == "Syntax.given":
+        return int(of[1])
+    _, names, _, handed = of
+    return tuple(word.strip('"') for word in items(names, "List.◌∷◌", "List.[]")), dictionaries(handed)
+
+
+def dictionaries(of):
+    return tuple(dictionary(one) for one in items(of, "Syntax.dcons", "Syntax.dnil"))
+
+
+def items(of, cons, none):
+    while of != none:
+        head, one, of = of
+        if head != cons:
+            raise ValueError
+        yield one
+
+
+def callee(of, named):
+    """What a call names, and what it hands for bounds: a function's name, or a dictionary and the number of its method."""
+    handed = ()
+    if isinstance(of, list):
+        *of, arguments = of
+        handed = dictionaries(pair(arguments)[1])
+        if of[0] == "Syntax.method":
+            return (dictionary(of[1]), int(of[2])), handed
+        of, = of
+    alias, _, part = of.rpartition(".")
+    if part != "name":
+        raise ValueError
+    return named[alias], handed
+
+
+def calls_of(text):
+    """The calls of a text, how many bounds it has, and what cannot be followed in it."""
+    calls, faults, named, lines = [], [], {}, []
     for line in text.splitlines():
         if match := NAMED.match(line):
             crate, path, kind, alias = match.groups()
             named[alias or kind] = "::".join([crate, *path.split(".")])
         elif not line.startswith(("use ", "--")):
             lines.append(line)
-    words = re.findall(r"[^\s()]+", "\n".join(lines))
-    for before, word in zip(["", *words], words):
-        alias, _, part = word.rpartition(".")
-        if before == "Syntax.call":
-            if part != "name" or alias not in named:
-                faults.append(f"a call that names no function of the program: {word}")
-            elif called := found_as(named[alias], functions):
-                calls.add(called)
-            else:
-                faults.append(f"a call of a function that is not there: {named[alias]}")
-        elif alias in named:
-            faults.append(f"{named[alias]} stands outside a call")
+    words = WORD.findall("\n".join(lines))
+    at = 0
+    while at < len(words):
+        word, at = words[at], at + 1
+        if word == "Syntax.call":
+            of, at = term(words, at)
+            try:
+                calls.append(callee(of, named))
+            except (ValueError, KeyError, IndexError, TypeError):
+                faults.append(f"a call that names no function of the program: {first_word(of)}")
+        elif word.rpartition(".")[0] in named:
+            faults.append(f"{named[word.rpartition('.')[0]]} stands outside a call")
+        elif word.startswith('"'):
+            faults.append(f"{word} stands outside a call")
         elif LEADS.search(word):
             faults.append(f"a call that is not direct: {word}")
-    return calls, faults
+    bounds = re.search(r"^ *givens = (\d+);$", text, re.MULTILINE)
+    return calls, int(bounds[1]) if bounds else 0, faults
 
 
 def way(calls, start, end):
@@ -108,21 +189,89 @@ def cycles(calls):
     return sorted(told)
 
 
+def put_in(one, handed):
+    """A dictionary, with what the function is handed in place of its bounds."""
+    return handed[one] if isinstance(one, int) else (one[0], tuple(put_in(it, handed) for it in one[1]))
+
+
+def all_in(handed):
+    for one in handed:
+        yield one
+        yield from all_in(one[1])
+
+
+def trait_of(one):
+    return [name.rpartition("::")[2] for name in one[0]]
+
+
+class Walk:
+    """The functions' calls, each function followed once with each methods that it is handed for its bounds."""
+
+    def __init__(self, functions):
+        self.functions, self.texts, self.calls, self.faults, self.followed = functions, {}, {}, set(), {}
+
+    def text(self, name):
+        if name not in self.texts:
+            self.texts[name] = calls_of(self.functions[name])
+        return self.texts[name]
+
+    def run(self, start):
+        waiting = [(start, ())]
+        while waiting:
+            name, handed = waiting.pop()
+            followed = self.followed.setdefault(name, set())
+            if handed in followed:
+                continue
+            followed.add(handed)
+            if len(followed) > MOST:
+                raise Unreadable(f"{name} is handed ever new methods")
+            self.faults |= {(name, fault) for fault in self.text(name)[2]}
+            reached = set(self.called_by(name, handed))
+            self.calls.setdefault(name, set()).update(called for called, _ in reached)
+            waiting += reached
+
+    def called_by(self, name, handed):
+        """What a function calls where it is handed that, with what it hands on."""
+        for what, more in self.text(name)[0]:
+            try:
+                more = tuple(put_in(one, handed) for one in more)
+                if isinstance(what, tuple):
+                    (methods, own), number = put_in(what[0], handed), what[1]
+                    # One without names is the library's choice among what it was handed.
+                    what, more = methods[number] if methods else "core::", own + more
+            except IndexError:
+                self.faults.add((name, "a call at a bound that it does not have"))
+                continue
+            if found := found_as(what, self.functions):
+                yield found, more
+            elif what.partition("::")[0] not in LIBRARY:
+                self.faults.add((name, f"a call of a function that is not there: {what}"))
+            elif what not in CALL_NOTHING:
+                yield from self.called_back(name, more)
+
+    def called_back(self, caller, handed):
+        """What the library may call of what it is handed. For a bound of a method it may hand on what is of another trait."""
+        every = list(all_in(handed))
+        for one in every:
+            for method in one[0]:
+                if found := found_as(method, self.functions):
+                    others = tuple(other for other in every if trait_of(other) != trait_of(one))
+                    missing = self.text(found)[1] - len(one[1])
+                    yield found, one[1] + (((), others),) * missing
+                elif method.partition("::")[0] not in LIBRARY:
+                    self.faults.add((caller, f"a function that is not there is handed on: {method}"))
+
+
 def walk(folder, name):
     """Prints what a function reaches. The exit status."""
     functions = definitions(folder)
     start = found_as(name, functions)
     if not start:
         raise Unreadable(f"there is no function {name}")
-    calls, faults, waiting = {}, [], [start]
-    while waiting:
-        name = waiting.pop()
-        if name not in calls:
-            calls[name], found = calls_of(functions[name], functions)
-            faults += [f"fault: {name}: {fault}" for fault in found]
-            waiting += calls[name]
-    told = cycles(calls) + sorted(faults)
-    print(*sorted(calls), *told, sep="\n")
+    walked = Walk(functions)
+    walked.run(start)
+    told = cycles(walked.calls) + sorted(f"fault: {name}: {fault}" for name, fault in walked.faults)
+    print(*sorted(walked.calls), *told, sep="\n")
     return 1 if told else 0
 
 
