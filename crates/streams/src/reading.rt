@@ -28,7 +28,7 @@ pub fn read_whole<R: Read>(reader: &mut R, buf: &mut [u8]) -> Result<usize, Read
     ensures bytes { Consumes (R.remaining reader.old) (R.remaining reader.new) (take (count_of result) buf.new) }
     ensures end { IfOk result (λ n. n < length buf.new → IsAtEnd (R.remaining reader.new)) }
 {
-    let mut count = 0;
+    let mut count = 0; // no `for` has it: it grows by what each read moved, and is the answer
     let mut tries = TRIES;
     while count < buf.len() {
         match reader.read(&mut buf[count..]) {
