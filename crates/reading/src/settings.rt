@@ -5,7 +5,7 @@ ghost use Rattle.reading.specs.Settings.{mode1_of, mode2_of, unused_bits, bad_di
 use table::{
     BIAS, CHANGE, DEADBAND, Format, GAIN, HIGH, HIGH_HIGH, HYSTERESIS, LOOP_WORDS, LOW, LOW_LOW,
     MODE_1, MODE_2, OUTPUT, OUTPUT_HIGH, OUTPUT_LOW, PERIOD, POINTER, PROFILE_FAULT, PROFILE_FLAGS,
-    RATE, RED, RESET, SETPOINT, STATUS, YELLOW, bad_digit, decimal,
+    RATE, RED, RESET, SETPOINT, STATUS, YELLOW, bad_digit, bit, decimal,
 };
 
 // M1: the bits of mode 1. Bit 15 has no use and stays as it is.
@@ -94,37 +94,37 @@ fn read_mode1(word: u16) -> Mode1
     ensures { result ≡ mode1_of word }
 {
     Mode1 {
-        manual: word / 1 % 2 == 1,
-        automatic: word / 2 % 2 == 1,
-        cascade: word / 4 % 2 == 1,
-        bumpless: word / 8 % 2 == 1,
-        reverse: word / 16 % 2 == 1,
-        velocity: word / 32 % 2 == 1,
-        root: word / 64 % 2 == 1,
-        squared: word / 128 % 2 == 1,
-        deadband: word / 256 % 2 == 1,
-        limited: word / 512 % 2 == 1,
-        freeze: word / 1024 % 2 == 1,
-        profile: word / 2048 % 2 == 1,
-        level: word / 4096 % 2 == 1,
-        deviation: word / 8192 % 2 == 1,
-        change: word / 16384 % 2 == 1,
+        manual: bit(word, 0),
+        automatic: bit(word, 1),
+        cascade: bit(word, 2),
+        bumpless: bit(word, 3),
+        reverse: bit(word, 4),
+        velocity: bit(word, 5),
+        root: bit(word, 6),
+        squared: bit(word, 7),
+        deadband: bit(word, 8),
+        limited: bit(word, 9),
+        freeze: bit(word, 10),
+        profile: bit(word, 11),
+        level: bit(word, 12),
+        deviation: bit(word, 13),
+        change: bit(word, 14),
     }
 }
 
 fn unused_bits(word: u16) -> bool
     ensures { result ≡ unused_bits word }
 {
-    (word / 1 % 2 == 1)
-        | (word / 4 % 2 == 1)
-        | (word / 8 % 2 == 1)
-        | (word / 32 % 2 == 1)
-        | (word / 64 % 2 == 1)
-        | (word / 128 % 2 == 1)
-        | (word / 2048 % 2 == 1)
-        | (word / 16384 % 2 == 1)
-        | (word / 32768 % 2 == 1)
-        | (!(word / 1024 % 2 == 1) & ((word / 4096 % 2 == 1) | (word / 8192 % 2 == 1)))
+    bit(word, 0)
+        | bit(word, 2)
+        | bit(word, 3)
+        | bit(word, 5)
+        | bit(word, 6)
+        | bit(word, 7)
+        | bit(word, 11)
+        | bit(word, 14)
+        | bit(word, 15)
+        | (!bit(word, 10) & (bit(word, 12) | bit(word, 13)))
 }
 
 #[tactic(auto, unfolding(crate::specs::Settings::mode2_of))]
@@ -135,8 +135,8 @@ fn read_mode2(word: u16) -> Mode2
     Mode2 {
         input,
         output: Format::of_output(word, input),
-        separate: word / 1024 % 2 == 1,
-        minutes: word / 16 % 2 == 1,
+        separate: bit(word, 10),
+        minutes: bit(word, 4),
         unused: unused_bits(word),
     }
 }

@@ -2,6 +2,8 @@
 ghost use Rattle.std.specs.Prelude.{◌≡◌};
 ghost use Rattle.table.specs.Words.{format_by, input_format, output_format};
 
+use crate::words::bit;
+
 #[derive(Clone, Copy)]
 pub struct Format {
     pub scale: u16,
@@ -31,16 +33,15 @@ impl Format {
     pub fn new(word: u16) -> Format
         ensures { result ≡ input_format word }
     {
-        Format::by(word / 512 % 2 == 1, word / 2 % 2 == 1)
+        Format::by(bit(word, 9), bit(word, 1))
     }
 
     // Of the output, from mode 2: with bit 10 on by bits 13 and 12, else the input's.
     pub fn of_output(word: u16, input: Format) -> Format
         ensures { result ≡ output_format word input }
     {
-        let separate = word / 1024 % 2 == 1;
-        if separate {
-            Format::by(word / 8192 % 2 == 1, word / 4096 % 2 == 1)
+        if bit(word, 10) {
+            Format::by(bit(word, 13), bit(word, 12))
         } else {
             input
         }

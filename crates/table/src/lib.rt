@@ -15,4 +15,4 @@ pub use offsets::{
     PROFILE_FLAGS, PROFILE_TABLE, PV, RATE, RED, RESET, SETPOINT, SLOPE, STATUS, TABLE_WORDS,
     WORDS, YELLOW,
 };
-pub use words::{bad_digit, base_of, clear_requests, decimal, flag, word_at};
+pub use words::{bad_digit, base_of, bit, clear_requests, decimal, flag, word_at};

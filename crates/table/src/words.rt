@@ -1,6 +1,6 @@
 // Single words: BCD digits, the word at an address, and where a loop's words begin.
-ghost use Rattle.std.specs.Prelude.{◌≡◌, ◌≤◌, get_or};
-ghost use Rattle.table.specs.Words.{bcd, bad_digit, clear_requests, flag_of, base_of};
+ghost use Rattle.std.specs.Prelude.{◌≡◌, ◌≤◌, ◌<◌, get_or};
+ghost use Rattle.table.specs.Words.{bit, bcd, bad_digit, clear_requests, flag_of, base_of};
 
 use crate::offsets::LOOP_WORDS;
 
@@ -37,6 +37,14 @@ pub fn clear_requests(word: u16) -> u16
     ensures { result ≡ clear_requests word }
 {
     word / 8 * 8
+}
+
+// Bit k of a word.
+pub fn bit(word: u16, k: u32) -> bool
+    requires { k < 16 }
+    ensures { result ≡ bit k word }
+{
+    word >> k & 1 == 1
 }
 
 // What a bit adds to a word: its value where it is on.
