@@ -38,13 +38,14 @@ pub fn position(freeze: bool, drive: Drive, terms: Terms, limits: Limits) -> Dri
     requires { Ready drive terms limits.low limits.high }
     ensures { result ≡ position_of freeze drive terms limits.low limits.high }
 {
+    let Limits { low, high } = limits;
     let base = terms.p - terms.d;
     let trial = drive.bias + terms.i;
     let m = base + trial;
-    if m < limits.low {
-        outside(freeze, drive, base, limits.low)
-    } else if limits.high < m {
-        outside(freeze, drive, base, limits.high)
+    if m < low {
+        outside(freeze, drive, base, low)
+    } else if high < m {
+        outside(freeze, drive, base, high)
     } else {
         Drive {
             bias: trial,
