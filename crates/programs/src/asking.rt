@@ -31,7 +31,8 @@ fn standard_input<I: Read, E: Write>(
     teller: &mut Teller<'_, E>,
     input: &mut [u8],
 ) -> Asked
-    ensures { IsStartOf result input.new }
+    ensures read { IsStartOf result input.new }
+    ensures program { teller.new.program.now ≡ teller.old.program.now }
 {
     match streams::read_whole(stdin, input) {
         Ok(count) => Asked::File(count),
@@ -66,7 +67,8 @@ fn no_name(error: FillError) -> io::Error {
 }
 
 fn argument<R: Env + Files, E: Write>(rt: &R, teller: &mut Teller<'_, E>, input: &mut [u8]) -> Asked
-    ensures { IsStartOf result input.new }
+    ensures read { IsStartOf result input.new }
+    ensures program { teller.new.program.now ≡ teller.old.program.now }
 {
     let mut buffer = [0u8; LONGEST_NAME];
     let name = match rt.arg(1, &mut buffer) {
@@ -101,7 +103,8 @@ pub fn read_input<R: Env + Files, I: Read, E: Write>(
     teller: &mut Teller<'_, E>,
     input: &mut [u8],
 ) -> Asked
-    ensures { IsStartOf result input.new }
+    ensures read { IsStartOf result input.new }
+    ensures program { teller.new.program.now ≡ teller.old.program.now }
 {
     if !has_argument(rt, 1) {
         return standard_input(stdin, teller, input);
