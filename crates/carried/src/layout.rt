@@ -94,6 +94,7 @@ pub fn out_of_range(n: [i64; FIELDS]) -> bool
 }
 
 // The profile that numbers in range stand for.
+#[tactic(auto, using(crate::specs::Layout::Laws::rows_in, crate::specs::Layout::Laws::up_to), unfolding(crate::specs::Layout::profile_from))]
 fn profile_of(n: [i64; FIELDS]) -> Profile
     requires { out_of_range n ≡ false }
     ensures { result ≡ profile_from n }
@@ -108,6 +109,7 @@ fn profile_of(n: [i64; FIELDS]) -> Profile
 }
 
 // The record that numbers in range stand for.
+#[tactic(auto, using(crate::specs::Layout::Laws::rows_in, crate::specs::Layout::Laws::up_to))]
 pub fn record_of(n: [i64; FIELDS]) -> Carried
     requires { out_of_range n ≡ false }
     ensures { result ≡ record_from n }
@@ -135,7 +137,6 @@ pub fn record_of(n: [i64; FIELDS]) -> Carried
 }
 
 // A record's numbers, in the order of the layout.
-#[tactic(auto, unfolding(crate::specs::Layout::numbers_of))]
 pub fn numbers_of(c: Carried) -> [i64; FIELDS]
     ensures { result ≡ numbers_of c }
 {
