@@ -176,9 +176,7 @@ pub fn numbers_at(numbers: &[i64], at: usize) -> [i64; FIELDS]
     requires { at + field_count ≤ length numbers.now }
     ensures { result ≡ numbers_at numbers.now at }
 {
-    let mut found = [0; FIELDS];
-    found.copy_from_slice(&numbers[at..at + FIELDS]);
-    found
+    *numbers[at..at + FIELDS].first_chunk().unwrap()
 }
 
 // A record's numbers stored from a place on.
@@ -186,7 +184,9 @@ pub fn put_numbers(numbers: &mut [i64], at: usize, fields: [i64; FIELDS])
     requires { at + field_count ≤ length numbers.old }
     ensures { numbers.new ≡ sets numbers.old at fields }
 {
-    numbers[at..at + FIELDS].copy_from_slice(&fields);
+    for (i, n) in fields.iter().enumerate() {
+        numbers[at + i] = *n;
+    }
 }
 
 // A13: the mark set in the record of loop k.
