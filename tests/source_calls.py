@@ -107,8 +107,11 @@ def dictionary(of):
     """What is handed for a bound: an `impl` as its methods' names and what it is handed for bounds of its own, else the bound's number."""
     if of[0] == "Syntax.given":
         return int(of[1])
-    _, names, _, handed = of
-    return tuple(word.strip('"') for word in items(names, "List.◌∷◌", "List.[]")), dictionaries(handed)
+    head, names, _, handed = of
+    names = tuple(items(names, "List.◌∷◌", "List.[]"))
+    if head != "Syntax.impl" or not all(re.fullmatch(r'"\w[^"]*"', str(name)) for name in names):
+        raise ValueError
+    return tuple(name.strip('"') for name in names), dictionaries(handed)
 
 
 def dictionaries(of):
@@ -205,7 +208,7 @@ def trait_of(one):
 
 
 class Walk:
-    """The functions' calls, each function followed once with each methods that it is handed for its bounds."""
+    """The functions' calls. A function is followed once for all that it is handed for its bounds, and again for other methods."""
 
     def __init__(self, functions):
         self.functions, self.texts, self.calls, self.faults, self.followed = functions, {}, {}, set(), {}
