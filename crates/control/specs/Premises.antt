@@ -1,4 +1,6 @@
 -- What an accepted sample's settings, inputs and terms are known to be: premises of the functions, met by laws beside the definitions.
+-- They are not invariants of the types: `measuring::measure` and `carried::numbers_of` take any tuning and any drive, and the definitions
+-- `inputs_of` and `terms_of` give inputs and terms of any size.
 use Rattle.std.specs.Prelude.{◌^◌, ◌≤◌, ◌<◌, ℤ, nat_abs}
 use Rattle.reading.specs.declared.settings.Tuning.{Tuning}
 use Rattle.control.specs.declared.terms.Inputs.{Inputs}
