@@ -1,14 +1,14 @@
 // A failure told in one line on standard error: `PROGRAM: WHAT: REASON`, or `PROGRAM: WHAT` where the system has no reason.
 ghost use Rattle.std.specs.Prelude.{◌≡◌, ◌+◌, ◌≤◌, ℕ, List, length};
 ghost use Rattle.std.specs.Io.{StartsWith};
-ghost use Rattle.text.specs.Text.{Written};
-ghost use Rattle.streams.specs.Counts.{IsPrefixLen};
+ghost use Rattle.text.specs.Writing.{HasRoom, Writes};
 ghost use Rattle.streams.specs.Steps.{AppendsStart};
 ghost use Rattle.programs.specs.Told.{failure_of, told_of};
 
 use std::fmt::InlineText;
 use std::io;
 use std::io::Write;
+use text::Writer;
 
 pub(crate) const LONGEST_NAME: usize = 4095; // a path has up to 4,096 bytes, the last a 0, which the name has not
 
@@ -18,29 +18,27 @@ const TOLD: usize = LONGEST_NAME + 10; // a file's name behind a program's of up
 
 const LINE: usize = TOLD + REASON + 3; // a colon, a space and a line feed
 
-// A line is put together as bytes and their count (no heap): a file's name may be no text, which std's `InlineString` holds alone.
+// A line is put together as bytes in a buffer of its own (no heap): a file's name may be no text, which std's `InlineString` holds alone.
 
-// `PROGRAM: WHAT` at the start of a line. Answers how many bytes these are.
-fn put_told(line: &mut [u8], program: &[u8], what: &[u8]) -> usize
-    requires { length program.now + 2 + length what.now ≤ length line.old }
-    ensures text { Written line.old 0 (told_of program.now what.now) line.new result }
-    ensures within { (result ≤ length program.now + 2 + length what.now) × IsPrefixLen result line.new }
+// `PROGRAM: WHAT`.
+fn put_told(line: &mut Writer, program: &[u8], what: &[u8])
+    requires { HasRoom line.old (length program.now + 2 + length what.now) }
+    ensures { Writes line.old (told_of program.now what.now) line.new }
 {
-    let colon = text::put_text(line, 0, program);
-    let behind = text::put_text(line, colon, b": ");
-    text::put_text(line, behind, what)
+    line.text(program);
+    line.text(b": ");
+    line.text(what);
 }
 
-// `PROGRAM: WHAT: REASON` and a line feed, likewise.
-fn put_failure(line: &mut [u8], program: &[u8], what: &[u8], reason: &[u8]) -> usize
-    requires { length program.now + length what.now + length reason.now + 5 ≤ length line.old }
-    ensures text { Written line.old 0 (failure_of program.now what.now reason.now) line.new result }
-    ensures within { IsPrefixLen result line.new }
+// `PROGRAM: WHAT: REASON` and a line feed.
+fn put_failure(line: &mut Writer, program: &[u8], what: &[u8], reason: &[u8])
+    requires { HasRoom line.old (length program.now + length what.now + length reason.now + 5) }
+    ensures { Writes line.old (failure_of program.now what.now reason.now) line.new }
 {
-    let told = put_told(line, program, what);
-    let colon = text::put_text(line, told, b": ");
-    let behind = text::put_text(line, colon, reason);
-    text::put_byte(line, behind, b'\n')
+    put_told(line, program, what);
+    line.text(b": ");
+    line.text(reason);
+    line.byte(b'\n');
 }
 
 // The system's words in an error's text, which has the error's number behind them.
@@ -80,7 +78,9 @@ impl<'a, E: Write> Teller<'a, E> {
         let text = InlineText::<REASON>::of(error);
         let reason = reason_in(text.as_str());
         let mut line = [0u8; LINE];
-        let n = put_failure(&mut line, self.program, what, reason.as_bytes());
+        let mut writer = Writer::new(&mut line);
+        put_failure(&mut writer, self.program, what, reason.as_bytes());
+        let n = writer.end();
         let _ = streams::write_whole(&mut self.stderr, &line[..n]);
     }
 
@@ -92,7 +92,9 @@ impl<'a, E: Write> Teller<'a, E> {
         ensures line { AppendsStart (E.contents self.old.stderr) (E.contents self.new.stderr) (told_of self.old.program.now what.now) }
     {
         let mut line = [0u8; TOLD];
-        let n = put_told(&mut line, self.program, what);
+        let mut writer = Writer::new(&mut line);
+        put_told(&mut writer, self.program, what);
+        let n = writer.end();
         let _ = streams::write_whole(&mut self.stderr, &line[..n]);
     }
 }

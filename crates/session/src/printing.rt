@@ -9,6 +9,7 @@ ghost use Rattle.session.specs.Printed.{lines_of, too_long_line, with_room, prin
 use crate::turn::{act, number_in};
 use desk::{NUMBERS, WORDS};
 use lines::{put_last, put_line};
+use text::Writer;
 
 pub const LONGEST: usize = 65536; // bytes of a file
 
@@ -26,21 +27,15 @@ fn transcript(file: &[u8], words: &mut [u16], numbers: &mut [i64], out: &mut [u8
 {
     let mut count = 0;
     let mut refused = 0;
-    let mut place = 0;
+    let mut text = Writer::new(out);
     for item in reader::read_records(file) {
         let acted = act(item, words, numbers);
         count += 1;
         refused += usize::from(acted.is_err());
-        place = put_line(
-            out,
-            place,
-            count,
-            item,
-            number_in(acted),
-            acted.unwrap_or([0; 4]),
-        );
+        put_line(&mut text, count, item, number_in(acted), acted.unwrap_or([0; 4]));
     }
-    put_last(out, place, count, refused)
+    put_last(&mut text, count, refused);
+    text.end()
 }
 
 // L11: what is printed of an input that is too long, where there is room.
@@ -51,7 +46,9 @@ fn put_too_long(out: &mut [u8]) -> usize
     if out.len() < 9 {
         return 0;
     }
-    text::put_text(out, 0, b"too long\n")
+    let mut text = Writer::new(out);
+    text.text(b"too long\n");
+    text.end()
 }
 
 // Q6: the whole printed text, from the start of `out`. Answers how many bytes it is; 0, and nothing is

@@ -5,10 +5,12 @@
 
 ghost use Rattle.std.specs.Prelude.{◌≡◌, ◌+◌, ◌≤◌, ◌<◌, length};
 ghost use Rattle.text.specs.Text.{Written};
+ghost use Rattle.text.specs.Writing.{HasRoom, Writes};
 ghost use Rattle.setups.specs.Setup.{word_bytes, store_bytes, handed_on, bytes_of, setup_of, setup_answer, setup_left};
 
 use desk::{WORDS, engine_word};
 use refusals::Refusal;
+use text::Writer;
 
 const RECORD: usize = 8; // bytes of a store
 
@@ -37,34 +39,33 @@ fn file_length(words: &[u16]) -> usize
     n
 }
 
-// L1: a number of two bytes at a place of `out`, the low one first. Answers the place behind it.
-fn put_word(out: &mut [u8], at: usize, n: u16) -> usize
-    requires { at + 2 ≤ length out.old }
-    ensures { Written out.old at (word_bytes n) out.new result }
+// L1: a number of two bytes, the low one first.
+fn put_word(file: &mut Writer, n: u16)
+    requires { HasRoom file.old 2 }
+    ensures { Writes file.old (word_bytes n) file.new }
 {
-    text::put_text(out, at, &n.to_le_bytes())
+    file.text(&n.to_le_bytes());
 }
 
-// L3: a store at a place of `out`. Answers the place behind it.
-fn put_store(out: &mut [u8], at: usize, address: u16, value: u16) -> usize
-    requires { at + 8 ≤ length out.old }
-    ensures { Written out.old at (store_bytes address value) out.new result }
+// L3: a store.
+fn put_store(file: &mut Writer, address: u16, value: u16)
+    requires { HasRoom file.old 8 }
+    ensures { Writes file.old (store_bytes address value) file.new }
 {
-    let kind = put_word(out, at, BEHIND);
-    let body = put_word(out, kind, STORE);
-    let second = put_word(out, body, address);
-    put_word(out, second, value)
+    put_word(file, BEHIND);
+    put_word(file, STORE);
+    put_word(file, address);
+    put_word(file, value);
 }
 
-// The bytes of a word at a place of `out`, if it has any. Answers the place behind them.
-fn put_bytes(out: &mut [u8], at: usize, address: usize, value: u16) -> usize
-    requires { (address < 1024) × (at + length (bytes_of address value) ≤ length out.old) }
-    ensures { Written out.old at (bytes_of address value) out.new result }
+// The bytes of a word, if it has any.
+fn put_bytes(file: &mut Writer, address: usize, value: u16)
+    requires room { HasRoom file.old (length (bytes_of address value)) }
+    requires word { address < 1024 }
+    ensures { Writes file.old (bytes_of address value) file.new }
 {
     if handed_on(address, value) {
-        put_store(out, at, address as u16, value)
-    } else {
-        at
+        put_store(file, address as u16, value);
     }
 }
 
@@ -73,11 +74,11 @@ fn put_file(words: &[u16], out: &mut [u8]) -> usize
     requires { (length words.now ≡ 1024) × (length (setup_of words.now) ≤ length out.old) }
     ensures { Written out.old 0 (setup_of words.now) out.new result }
 {
-    let mut place = 0;
+    let mut file = Writer::new(out);
     for (address, value) in words.iter().enumerate() {
-        place = put_bytes(out, place, address, *value);
+        put_bytes(&mut file, address, *value);
     }
-    place
+    file.end()
 }
 
 // Q12: the setup file of the words at the start of `out`; what stands behind it stays. N5, N10.

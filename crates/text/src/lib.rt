@@ -1,29 +1,139 @@
 // Texts written into a lent buffer: single bytes, byte texts, decimal and hexadecimal numbers.
 //
-// Each function writes its text at a place and answers the place behind it. Every other byte of
-// the buffer stays. The caller shows that the text fits: `specs/Text/Laws` has the lengths.
+// A writer has the buffer and the place of the next byte; each call writes its text there and moves on behind it. Every
+// other byte of the buffer stays. The caller shows that the text fits: `specs/Text/Laws` has the lengths.
 #![tactic(auto)]
 
-ghost use Rattle.std.specs.Prelude.{◌≡◌, [], ◌∷◌, ◌+◌, ◌≤◌, ◌<◌, length};
-ghost use Rattle.text.specs.Text.{Written, decimal_of, two_digits, hex_digit, hex_of};
+ghost use Rattle.std.specs.Prelude.{◌≡◌, [], ◌∷◌, ◌<◌, length};
+ghost use Rattle.text.specs.Text.{decimal_of, two_digits, hex_digit, hex_of};
+ghost use Rattle.text.specs.Writing.{HasRoom, Writes};
 
-// One byte.
-pub fn put_byte(out: &mut [u8], at: usize, b: u8) -> usize
-    requires { at + 1 ≤ length out.old }
-    ensures { Written out.old at (b ∷ []) out.new result }
-{
-    out[at] = b;
-    at + 1
+// Not `Drop`: `end` gives the buffer back.
+pub struct Writer<'a> {
+    pub out: &'a mut [u8],
+    pub at: usize,
 }
 
-// All bytes of text.
-pub fn put_text(out: &mut [u8], at: usize, text: &[u8]) -> usize
-    requires { at + length text.now ≤ length out.old }
-    ensures { Written out.old at text.now out.new result }
-{
-    let end = at + text.len();
-    out[at..end].copy_from_slice(text);
-    end
+impl<'a> Writer<'a> {
+    // At the start of a buffer.
+    pub fn new(out: &'a mut [u8]) -> Writer<'a>
+        ensures same { result.out.ghost_name ≡ out.entry.ghost_name }
+        ensures now { result.out.now ≡ out.old }
+        ensures at { result.at ≡ 0 }
+    {
+        Writer { out, at: 0 }
+    }
+
+    // The place behind all that was written; the buffer is the caller's again.
+    pub fn end(self) -> usize
+        ensures at { result ≡ self.entry.at }
+        ensures out { self.exit.0.now ≡ self.entry.out.now }
+    {
+        let Writer { out: _out, at } = self;
+        at
+    }
+
+    // One byte.
+    pub fn byte(&mut self, b: u8)
+        requires { HasRoom self.old 1 }
+        ensures { Writes self.old (b ∷ []) self.new }
+    {
+        self.out[self.at] = b;
+        self.at += 1;
+    }
+
+    // All bytes of text.
+    pub fn text(&mut self, text: &[u8])
+        requires { HasRoom self.old (length text.now) }
+        ensures { Writes self.old text.now self.new }
+    {
+        let end = self.at + text.len();
+        self.out[self.at..end].copy_from_slice(text);
+        self.at = end;
+    }
+
+    // Two digits of a number below 100.
+    fn two(&mut self, n: u32)
+        requires room { HasRoom self.old 2 }
+        requires small { n < 100 }
+        ensures { Writes self.old (two_digits n) self.new }
+    {
+        self.text(&[(48 + n / 10) as u8, (48 + n % 10) as u8]);
+    }
+
+    // A number below 100 in decimal.
+    fn up_to_two(&mut self, n: u32)
+        requires room { HasRoom self.old (length (decimal_of n)) }
+        requires small { n < 100 }
+        ensures { Writes self.old (decimal_of n) self.new }
+    {
+        if n < 10 {
+            self.byte((48 + n) as u8);
+        } else {
+            self.two(n);
+        }
+    }
+
+    // A number below 10,000.
+    fn up_to_four(&mut self, n: u32)
+        requires room { HasRoom self.old (length (decimal_of n)) }
+        requires small { n < 10000 }
+        ensures { Writes self.old (decimal_of n) self.new }
+    {
+        if n < 100 {
+            return self.up_to_two(n);
+        }
+        self.up_to_two(n / 100);
+        self.two(n % 100);
+    }
+
+    // A number below 1,000,000: every word is.
+    fn up_to_six(&mut self, n: u32)
+        requires room { HasRoom self.old (length (decimal_of n)) }
+        requires small { n < 1000000 }
+        ensures { Writes self.old (decimal_of n) self.new }
+    {
+        if n < 10000 {
+            return self.up_to_four(n);
+        }
+        self.up_to_four(n / 100);
+        self.two(n % 100);
+    }
+
+    // A number of any width. The digits are written from the last one back.
+    fn long(&mut self, n: u64)
+        requires { HasRoom self.old (length (decimal_of n)) }
+        ensures { Writes self.old (decimal_of n) self.new }
+    {
+        let end = self.at + decimal_width(n);
+        let mut rest = n;
+        for place in (self.at..end).rev() {
+            self.out[place] = (48 + rest % 10) as u8;
+            rest /= 10;
+        }
+        self.at = end;
+    }
+
+    // n in decimal, no zero in front.
+    pub fn decimal(&mut self, n: u64)
+        requires { HasRoom self.old (length (decimal_of n)) }
+        ensures { Writes self.old (decimal_of n) self.new }
+    {
+        if n < 1000000 {
+            self.up_to_six(n as u32);
+        } else {
+            self.long(n);
+        }
+    }
+
+    // A word as four upper-case hexadecimal digits.
+    pub fn hex(&mut self, n: u16)
+        requires { HasRoom self.old 4 }
+        ensures { Writes self.old (hex_of n) self.new }
+    {
+        let places = [n / 4096, n / 256, n / 16, n];
+        self.text(&places.map(|place| hex_digit(place % 16)));
+    }
 }
 
 // How many decimal digits n has.
@@ -31,76 +141,6 @@ pub fn decimal_width(n: u64) -> usize
     ensures { result ≡ length (decimal_of n) }
 {
     n.checked_ilog10().unwrap_or(0) as usize + 1
-}
-
-// Two digits of a number below 100.
-fn put_two(out: &mut [u8], at: usize, n: u32) -> usize
-    requires { (n < 100) × (at + 2 ≤ length out.old) }
-    ensures { Written out.old at (two_digits n) out.new result }
-{
-    put_text(out, at, &[(48 + n / 10) as u8, (48 + n % 10) as u8])
-}
-
-// A number below 100 in decimal.
-fn put_up_to_two(out: &mut [u8], at: usize, n: u32) -> usize
-    requires { (n < 100) × (at + length (decimal_of n) ≤ length out.old) }
-    ensures { Written out.old at (decimal_of n) out.new result }
-{
-    if n < 10 {
-        put_byte(out, at, (48 + n) as u8)
-    } else {
-        put_two(out, at, n)
-    }
-}
-
-// A number below 10,000.
-fn put_up_to_four(out: &mut [u8], at: usize, n: u32) -> usize
-    requires { (n < 10000) × (at + length (decimal_of n) ≤ length out.old) }
-    ensures { Written out.old at (decimal_of n) out.new result }
-{
-    if n < 100 {
-        return put_up_to_two(out, at, n);
-    }
-    let behind = put_up_to_two(out, at, n / 100);
-    put_two(out, behind, n % 100)
-}
-
-// A number below 1,000,000: every word is.
-fn put_up_to_six(out: &mut [u8], at: usize, n: u32) -> usize
-    requires { (n < 1000000) × (at + length (decimal_of n) ≤ length out.old) }
-    ensures { Written out.old at (decimal_of n) out.new result }
-{
-    if n < 10000 {
-        return put_up_to_four(out, at, n);
-    }
-    let behind = put_up_to_four(out, at, n / 100);
-    put_two(out, behind, n % 100)
-}
-
-// A number of any width. The digits are written from the last one back.
-fn put_long(out: &mut [u8], at: usize, n: u64) -> usize
-    requires { at + length (decimal_of n) ≤ length out.old }
-    ensures { Written out.old at (decimal_of n) out.new result }
-{
-    let end = at + decimal_width(n);
-    let mut rest = n;
-    for place in (at..end).rev() {
-        out[place] = (48 + rest % 10) as u8;
-        rest /= 10;
-    }
-    end
-}
-
-// n in decimal, no zero in front.
-pub fn put_decimal(out: &mut [u8], at: usize, n: u64) -> usize
-    requires { at + length (decimal_of n) ≤ length out.old }
-    ensures { Written out.old at (decimal_of n) out.new result }
-{
-    if n < 1000000 {
-        put_up_to_six(out, at, n as u32)
-    } else {
-        put_long(out, at, n)
-    }
 }
 
 // The upper-case hexadecimal digit of a number below 16.
@@ -113,13 +153,4 @@ pub fn hex_digit(d: u16) -> u8
     } else {
         (55 + d) as u8
     }
-}
-
-// A word as four upper-case hexadecimal digits.
-pub fn put_hex(out: &mut [u8], at: usize, n: u16) -> usize
-    requires { at + 4 ≤ length out.old }
-    ensures { Written out.old at (hex_of n) out.new result }
-{
-    let places = [n / 4096, n / 256, n / 16, n];
-    put_text(out, at, &places.map(|place| hex_digit(place % 16)))
 }

@@ -1,6 +1,6 @@
 -- The three texts stand one behind the other.
-use Rattle.text.specs.Text.Laws.{written_append}
+use Rattle.text.specs.Writing.Laws.{writes_append}
 use Rattle.programs.proofs.telling.put_told.Goals as goal
 
-pub returns-clause-text : goal.returns-clause-text
-returns-clause-text c = written_append c.put_text-colon.ensures (written_append c.put_text-behind.ensures c.put_text.ensures)
+pub returns : goal.returns
+returns c = writes_append c.text.ensures (writes_append c.text-2.ensures c.text-3.ensures)

@@ -9,5 +9,5 @@ abbrev pub invariant-loop-item : goal.invariant-loop-item
 invariant-loop-item l =
     (goal.iterator-loop-item).can_next l.item-iterator
     × ((goal.iterator-loop-item).is_finite l.item-iterator
-    × (Telling l.file l.initial.words l.initial.numbers l.initial.out l.words l.numbers l.count l.refused (records_left l.item-iterator) l.out l.place
-    × ((length l.words ≡ length l.initial.words) × (length l.numbers ≡ length l.initial.numbers))))
+    × (Telling l.file l.initial.words l.initial.numbers l.initial.text.out.now l.words l.numbers l.count l.refused (records_left l.item-iterator) l.text.out.now l.text.at
+    × ((length l.words ≡ length l.initial.words) × (length l.numbers ≡ length l.initial.numbers) × (l.text.out.ghost_name ≡ l.initial.text.out.ghost_name))))

@@ -1,14 +1,14 @@
--- `text::put_long` meets its contract: a turn stores the last digit of the rest (`decimal_more`, `sets_behind`), the last turn its only one (`decimal_one`).
+-- `text::Writer::long` meets its contract: a turn stores the last digit of the rest (`decimal_more`, `sets_behind`), the last turn its only one (`decimal_one`).
 use mathlib.Core.Path.{◌≡◌, refl, ap, ◌∙◌}
 use mathlib.Core.Bool.{Bool, true, false}
 use Prim.Native.Nat.{ℕ, ◌+◌, ◌-◌, ◌/◌, ◌≤◌, ◌<◌}
 use native.Mathlib.Omega.{arith}
 use lib.Dec.{ltb}
-use lib.ListN.{length, length-append}
+use lib.ListN.{length, length-append, length-set}
 use borrow.Author.Tests.{ltb-true, ltb-false}
 use Rattle.text.specs.Text.{decimal_of, last_digit}
 use Rattle.text.specs.Text.Laws.{decimal_one, decimal_more, decimal_some, sets_behind}
-use Rattle.text.proofs.put_long.Goals as goal
+use Rattle.text.proofs.Writer.long.Goals as goal
 
 -- a number of more than one digit, and of one
 tens : (n : ℕ) → 1 < length (decimal_of n) → 10 ≤ n
@@ -28,12 +28,22 @@ ones n h = go (ltb n 10) refl
 pub loop-place-preserved : goal.loop-place-preserved
 loop-place-preserved c =
     let l = c.loop-place in
-    let at = c.args.at in
-    let behind = l.invariant.1 c.loop-place-test.true in (
+    let out = l.self.out.now in
+    let at = c.args.self.now.at in
+    let i = l.invariant in
+    let behind = i.4 c.loop-place-test.true in (
+      i.0,
+      i.1,
+      simp length-set (omega arith),
       omega arith,
       λ h.
           let e = decimal_more l.rest (tens l.rest (omega (arith, behind.0))) in
           let p : l.place - 1 ≡ at + length (decimal_of (l.rest / 10)) = omega (arith, behind.0, simp length-append at (ap length e)) in
-          (p, rw p (sets_behind l.out at (decimal_of (l.rest / 10)) (last_digit l.rest) ∙ (rw e at behind.1))),
+          (p, rw p (sets_behind out at (decimal_of (l.rest / 10)) (last_digit l.rest) ∙ (rw e at behind.1))),
       λ h. let e = decimal_one l.rest (ones l.rest (omega (arith, behind.0))) in rw h (rw e at behind.1),
     )
+
+pub returns : goal.returns
+returns c =
+    let i = c.loop-place.invariant in
+    record { same = i.1; size = i.2; written = record { buffer = i.5 (omega arith); place = omega arith } }
