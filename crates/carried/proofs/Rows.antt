@@ -1,7 +1,6 @@
 -- The rows of the ranges as the code has them, pairs of a lowest and a highest number, and numbers read beside them.
 use Rattle.std.proofs.Common.{ℕ, suc, ◌+◌, ◌≤◌, ◌≡◌, Bool, true, false, ◌||◌, List, [], ◌∷◌, length, drop, map, get_or, refl, sym, ◌∙◌, arith, drop-cons}
 use lib.IntN.{ℤ, pos}
-use lib.Signed.{lt_z}
 use mathlib.Core.Logic.{◌⊎◌, inl, inr}
 use Rattle.table.specs.Words.{any_after}
 use Rattle.carried.specs.Layout.{Range, ◌to◌, ranges, field_count, outside_row, range_tests, out_of_range}
@@ -42,8 +41,8 @@ is_beside ns size = tests_beside ns ranges 0 false (omega arith)
 -- ---- a turn of the loop, and its end
 
 pub beside_more : (ns ms : List ℤ) (rows rests : List (ℤ × ℤ)) (n : ℤ) (row : ℤ × ℤ) (b : Bool) → ns ≡ n ∷ ms → rows ≡ row ∷ rests
-    → lt_z n row.0 ≡ false → lt_z row.1 n ≡ false → beside ns rows ≡ b → beside ms rests ≡ b
-beside_more ns ms rows rests n row b e f low high h = rw (e, f, low, high) at h
+    → outside_row (row.0 to row.1) n ≡ false → beside ns rows ≡ b → beside ms rests ≡ b
+beside_more ns ms rows rests n row b e f inside h = rw (e, f, inside) at h
 
 pub beside_end : (ns : List ℤ) (rows : List (ℤ × ℤ)) (b : Bool) → (length ns ≡ 0) ⊎ (length rows ≡ 0) → beside ns rows ≡ b → false ≡ b
 beside_end [] rows b e h = h

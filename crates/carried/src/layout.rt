@@ -86,7 +86,7 @@ pub fn out_of_range(n: [i64; FIELDS]) -> bool
     ensures { result ≡ out_of_range n }
 {
     for (n, (low, high)) in n.iter().zip(&RANGES) {
-        if *n < *low || *high < *n {
+        if (*n < *low) | (*high < *n) {
             return true;
         }
     }
