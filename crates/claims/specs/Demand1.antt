@@ -83,7 +83,7 @@ pub record Demand1 : Type 0 where
   pub prints : (file out : List ℕ) (size : ℕ) → room_for file ≤ length out
       → print_left file out size ≡ filled 0 (sets out 0 (printed_of file)) (length (printed_of file))
   pub no_room : (file out : List ℕ) (size : ℕ) → length out < room_for file → print_left file out size ≡ filled 5 out size
-  -- the program's buffer has 655,460 bytes (`session::output_buffer`): always enough
+  -- the program's buffer has 655,460 bytes (`session::OUTPUT`): always enough
   pub program : (file : List ℕ) → printed_within 655460 file ≡ printed_of file
   -- ---- direct calls, and in which order a sample's refusals are tested
   pub calls : Called

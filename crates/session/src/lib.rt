@@ -5,5 +5,5 @@ mod printing;
 mod running;
 mod turn;
 
-pub use printing::{LONGEST, drill, input_buffer, output_buffer};
+pub use printing::{INPUT, LONGEST, OUTPUT, buffer, drill};
 pub use running::{Totals, run};

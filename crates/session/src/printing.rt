@@ -13,9 +13,11 @@ use text::Writer;
 
 pub const LONGEST: usize = 65536; // bytes of a file
 
-const INPUT: usize = LONGEST + 1; // a longer file is known by one byte more
+pub const INPUT: usize = LONGEST + 1; // a longer file is known by one byte more
 
-const OUTPUT: usize = 10 * LONGEST + 100; // what the longest prints
+pub const OUTPUT: usize = 10 * LONGEST + 100; // what the longest prints
+
+const TOO_LONG: &[u8] = b"too long\n";
 
 // Every record of a file in turn, with its line, and the last line: from the start of `out`. Answers
 // how many bytes these are: at most ten for each byte of the file, and 100.
@@ -43,11 +45,11 @@ fn put_too_long(out: &mut [u8]) -> usize
     ensures written { Written out.old 0 (with_room (length out.old) 9 too_long_line) out.new result }
     ensures upper_bound { result ≤ length out.old }
 {
-    if out.len() < 9 {
+    if out.len() < TOO_LONG.len() {
         return 0;
     }
     let mut text = Writer::new(out);
-    text.text(b"too long\n");
+    text.text(TOO_LONG);
     text.end()
 }
 
@@ -70,16 +72,9 @@ pub fn drill(input: &[u8], out: &mut [u8]) -> usize
     transcript(input, &mut words, &mut numbers, out)
 }
 
-// Room for an input.
-pub fn input_buffer() -> [u8; INPUT]
-    ensures { (result ≡ replicate 65537 0) × (65537 ≡ length result) }
+// Room for an input or for what it prints, all 0. A function: a check that meets a literal array of these lengths does not end.
+pub fn buffer<const N: usize>() -> [u8; N]
+    ensures { (result ≡ replicate N 0) × (N ≡ length result) }
 {
-    [0; INPUT]
-}
-
-// Room for what any input prints.
-pub fn output_buffer() -> [u8; OUTPUT]
-    ensures { (result ≡ replicate 655460 0) × (655460 ≡ length result) }
-{
-    [0; OUTPUT]
+    [0; N]
 }
