@@ -27,14 +27,20 @@ fn transcript(file: &[u8], words: &mut [u16], numbers: &mut [i64], out: &mut [u8
     ensures written { Written out.old 0 (lines_of (begun (lent words.old numbers.old)) (records_of file.now)) out.new result }
     ensures upper_bound { result ≤ 10 * length file.now + 100 }
 {
-    let mut count = 0;
+    let mut count = 0; // not by enumerate: the last line needs it behind the loop
     let mut refused = 0;
     let mut text = Writer::new(out);
     for item in reader::read_records(file) {
         let acted = act(item, words, numbers);
         count += 1;
         refused += usize::from(acted.is_err());
-        put_line(&mut text, count, item, number_in(acted), acted.unwrap_or([0; 4]));
+        put_line(
+            &mut text,
+            count,
+            item,
+            number_in(acted),
+            acted.unwrap_or([0; 4]),
+        );
     }
     put_last(&mut text, count, refused);
     text.end()
@@ -54,7 +60,8 @@ fn put_too_long(out: &mut [u8]) -> usize
 }
 
 // Q6: the whole printed text, from the start of `out`. Answers how many bytes it is; 0, and nothing is
-// written, where `out` has less room than ten bytes for each byte of the input, and 100.
+// written, where `out` has less room than ten bytes for each byte of the input, and 100. No Result: `drill` cannot
+// fail, and its clauses speak of the count at 0 too.
 #[tactic(auto, using(crate::proofs::Loops::printed), unfolding(crate::specs::Printed::printed_within, crate::specs::Printed::printed_of, desk::specs::Desk::reset_desk))]
 pub fn drill(input: &[u8], out: &mut [u8]) -> usize
     ensures printed { take result out.new ≡ printed_within (length out.old) input.now }
@@ -72,7 +79,7 @@ pub fn drill(input: &[u8], out: &mut [u8]) -> usize
     transcript(input, &mut words, &mut numbers, out)
 }
 
-// Room for an input or for what it prints, all 0. A function: a check that meets a literal array of these lengths does not end.
+// Room for an input or for what it prints, all 0. A function, since at a literal array of these lengths a caller's check runs out of stack.
 pub fn buffer<const N: usize>() -> [u8; N]
     ensures { (result ≡ replicate N 0) × (N ≡ length result) }
 {

@@ -30,7 +30,7 @@ fn carry_all(file: &[u8], words: &mut [u16], numbers: &mut [i64], answers: &mut 
     ensures state_after { state words.new numbers.new result.count result.refused ≡ run_of (begun (lent words.old numbers.old)) (records_of file.now) }
     ensures answers_after { answers.new ≡ sets answers.old 0 (answers_for (lent words.old numbers.old) (records_of file.now)) }
 {
-    let mut count = 0;
+    let mut count = 0; // not by enumerate: the answer needs it behind the loop
     let mut refused = 0;
     for item in reader::read_records(file) {
         let acted = act(item, words, numbers);

@@ -1,6 +1,5 @@
 -- `session::transcript` meets its contract: the lines of the records left, written at the place reached, would complete the text.
 use mathlib.Core.Path.{refl, ap, ◌∙◌}
-use lib.ListN.{length}
 use Rattle.std.proofs.Common.{arith}
 use Rattle.std.proofs.lemmas.Grind.{common_steps}
 use Rattle.reader.specs.File.{records_left}
