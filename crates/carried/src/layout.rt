@@ -61,6 +61,8 @@ const RANGES: [(i64, i64); FIELDS] = [
     (0, 1), // mark
 ];
 
+// H1's number of a mode. No From of Mode, which would stand in table: the wrong version `modes_numbered_otherwise` numbers
+// the modes otherwise here and in the definition.
 fn mode_number(mode: Mode) -> i64
     ensures { result ≡ pos (mode_number mode) }
 {
@@ -114,13 +116,11 @@ pub fn record_of(n: [i64; FIELDS]) -> Carried
     requires { out_of_range n ≡ false }
     ensures { result ≡ record_from n }
 {
-    let mode = mode_from(n[MODE]);
-    let profile = profile_of(n);
     Carried {
         state: State {
-            mode,
+            mode: mode_from(n[MODE]),
             velocity: 0 < n[VELOCITY],
-            profile,
+            profile: profile_of(n),
             mark: 0 < n[MARK],
         },
         drive: Drive {
@@ -141,18 +141,14 @@ pub fn numbers_of(c: Carried) -> [i64; FIELDS]
     ensures { result ≡ numbers_of c }
 {
     let state = c.state;
-    let mode = state.mode;
-    let bias = c.drive.bias;
-    let output = c.drive.output;
-    let error = c.past.error;
     let profile = state.profile;
     [
-        mode_number(mode),
-        bias,
-        output,
+        mode_number(state.mode),
+        c.drive.bias,
+        c.drive.output,
         i64::from(c.past.last),
         i64::from(c.past.prior),
-        error,
+        c.past.error,
         i64::from(state.velocity),
         i64::from(c.sampled),
         i64::from(profile.segment),
@@ -164,7 +160,8 @@ pub fn numbers_of(c: Carried) -> [i64; FIELDS]
     ]
 }
 
-// The place of the record of loop k in the buffer.
+// The place of the record of loop k in the buffer. The table's `base_of` differs in the constant: one function for both would
+// ask for a bound of it, and be no shorter.
 pub fn slot_of(k: u8) -> usize
     ensures { result ≡ slot_of k }
 {
@@ -179,7 +176,7 @@ pub fn numbers_at(numbers: &[i64], at: usize) -> [i64; FIELDS]
     *numbers[at..at + FIELDS].first_chunk().unwrap()
 }
 
-// A record's numbers stored from a place on.
+// A record's numbers stored from a place on. `copy_from_slice`, here and above, takes a sample 55 instructions more.
 pub fn put_numbers(numbers: &mut [i64], at: usize, fields: [i64; FIELDS])
     requires { at + field_count ≤ length numbers.old }
     ensures { numbers.new ≡ sets numbers.old at fields }

@@ -19,7 +19,8 @@ fn count(way: u32, step: u32) -> u64
     1 + u64::from(way.saturating_sub(1) / step)
 }
 
-// The samples of the `left` last segments, of which a ramp is the first and begins at `at`.
+// The samples of the `left` last segments, of which a ramp is the first and begins at `at`. `ramps` and `soaks` are no `for`
+// over the segments: tests/self_calls names their cycle.
 #[cycle(ramps_soaks)]
 #[tactic(auto, using(crate::proofs::Laws::Forecasts::one_segment))]
 fn ramps(table: &[u16; TABLE_WORDS], period: u16, at: u32, left: usize) -> u64

@@ -115,7 +115,8 @@ impl Profile {
         }
     }
 
-    // G8: a soak.
+    // G8: a soak. Pair and period come from the program and from the settings: a struct of both would be built for these calls
+    // alone.
     #[tactic(auto, unfolding(crate::specs::Moves::soaked_by))]
     fn soaked(self, pair: Pair, period: u16) -> Profile
         requires { self.time ≤ 6000000 }

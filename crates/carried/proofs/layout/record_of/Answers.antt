@@ -8,6 +8,6 @@ unfolding record_from
 returns c =
     simp (
       same c.args.n c.well_formed.0.0 c.well_formed.0.1.1,
-      c.profile_of-profile.ensures,
-      c.mode_from-mode.ensures,
+      c.profile_of.ensures,
+      c.mode_from.ensures,
     )
