@@ -30,6 +30,7 @@ pub struct Reading {
 }
 
 // A2: the lowest request bit that is on names the mode; with all three off the former one goes on.
+#[tactic(auto, unfolding(crate::specs::Reading::mode_after))]
 fn mode_after(bits: Mode1, former: Mode) -> Mode
     ensures { result ≡ mode_after bits former }
 {
@@ -45,17 +46,15 @@ fn mode_after(bits: Mode1, former: Mode) -> Mode
 }
 
 // A13: from Automatic to Cascade, by request, with bit 3 off.
+#[tactic(auto, unfolding(crate::specs::Reading::mode_after, crate::specs::Transfers::transfers))]
 fn is_transfer(bits: Mode1, former: Mode) -> bool
     ensures { result ≡ transfers former (mode_after bits former) bits.bumpless }
 {
-    if bits.cascade {
-        former.is_automatic() & !bits.manual & !bits.automatic & !bits.bumpless
-    } else {
-        false
-    }
+    bits.cascade & former.is_automatic() & !bits.manual & !bits.automatic & !bits.bumpless
 }
 
 // A3: the word that the setpoint pointer names, in Cascade; else 0.
+#[tactic(auto, unfolding(crate::specs::Reading::remote_of))]
 fn read_remote(words: &[u16], mode: Mode, pointer: u16) -> u16
     ensures { result ≡ remote_of words.now mode pointer }
 {
@@ -67,6 +66,7 @@ fn read_remote(words: &[u16], mode: Mode, pointer: u16) -> u16
 }
 
 // What a sample of loop `number` reads.
+#[tactic(auto, unfolding(crate::specs::Reading::reading_of))]
 pub fn read_loop(words: &[u16], number: u8, former: Former) -> Reading
     requires { (base_of number + 32 ≤ length words.now) × (1024 ≤ length words.now) × (former.segment ≤ 16) }
     ensures { result ≡ reading_of words.now number former }
@@ -75,19 +75,20 @@ pub fn read_loop(words: &[u16], number: u8, former: Former) -> Reading
     let settings = read_settings(part(words, base));
     let bits = settings.mode1;
     let mode = mode_after(bits, former.mode);
-    let remote = read_remote(words, mode, settings.pointer);
-    let at = words[base + PROFILE_TABLE];
-    let scale = settings.mode2.input.scale;
-    let program = read_program(words, bits.profile, at, scale, former.segment);
     let transfer = is_transfer(bits, former.mode);
-    let major = read_major(words, transfer, number, settings.pointer);
     Reading {
         number,
         settings,
         mode,
-        remote,
+        remote: read_remote(words, mode, settings.pointer),
         transfer,
-        major,
-        program,
+        major: read_major(words, transfer, number, settings.pointer),
+        program: read_program(
+            words,
+            bits.profile,
+            words[base + PROFILE_TABLE],
+            settings.mode2.input.scale,
+            former.segment,
+        ),
     }
 }

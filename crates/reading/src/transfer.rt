@@ -12,6 +12,7 @@ pub struct Major {
 }
 
 // N11: the loop, other than `number`, whose output word has the address; 0 where there is none.
+#[tactic(auto, unfolding(crate::specs::Transfers::major_of))]
 fn major_of(number: u8, pointer: u16) -> u8
     ensures { result ≡ major_of number pointer }
 {
@@ -25,6 +26,7 @@ fn major_of(number: u8, pointer: u16) -> u8
 }
 
 // Words 24 and 25 of the major loop.
+#[tactic(auto, unfolding(crate::specs::Transfers::limits_at))]
 fn limits_at(words: &[u16], major: u8) -> OutputLimits
     ensures { result ≡ limits_at words.now major }
 {
@@ -39,20 +41,17 @@ fn limits_at(words: &[u16], major: u8) -> OutputLimits
 }
 
 // What a sample of loop `number` reads of the major loop, if it is a transfer.
+#[tactic(auto, unfolding(crate::specs::Transfers::major_in))]
 pub(crate) fn read_major(words: &[u16], transfer: bool, number: u8, pointer: u16) -> Major
     ensures { result ≡ major_in words.now transfer number pointer }
 {
-    if transfer {
-        let major = major_of(number, pointer);
-        let limits = limits_at(words, major);
-        Major {
-            number: major,
-            limits,
-        }
+    let number = if transfer {
+        major_of(number, pointer)
     } else {
-        Major {
-            number: 0,
-            limits: OutputLimits { low: 0, high: 0 },
-        }
+        0
+    };
+    Major {
+        number,
+        limits: limits_at(words, number),
     }
 }
