@@ -67,6 +67,7 @@ fn pairs(table: &[u16; TABLE_WORDS]) -> &[[u16; PAIR_WORDS]]
 }
 
 // The i-th pair of a table, from 0.
+#[tactic(auto, using(crate::proofs::Laws::Programs::pair_word), unfolding(crate::specs::Programs::pair_at))]
 pub fn read_pair(table: &[u16; TABLE_WORDS], i: usize) -> Pair
     requires { i < 8 }
     ensures { result ≡ pair_at table.now i }
@@ -123,6 +124,7 @@ fn no_program(fault: u16) -> Program
 }
 
 // The program of a loop: bit 11, word 28, the full scale, and the carried segment.
+#[tactic(auto, using(crate::proofs::Laws::Programs::good_address, crate::proofs::Laws::Programs::digits_by_pair, crate::proofs::Laws::Programs::ends_by_pair), unfolding(crate::specs::Programs::program_of))]
 pub(crate) fn read_program(words: &[u16], bit: bool, at: u16, scale: u16, segment: u8) -> Program
     requires { (1024 ≤ length words.now) × (segment ≤ 16) }
     ensures { result ≡ program_of words.now bit at scale segment }
