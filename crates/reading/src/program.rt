@@ -5,8 +5,8 @@ ghost use Rattle.table.specs.Words.{block_at, bad_digit};
 ghost use Rattle.reading.specs.Programs.{fault_of, pair_at, pairs_of, pair_number, bad_digit_in, high_end_in, no_program, program_of};
 
 use table::{
-    DEVIATION, DURATION, END, FIRST_TABLE, LAST_TABLE, PAIR_WORDS, SLOPE, TABLE_WORDS, bad_digit,
-    decimal,
+    DEVIATION, DURATION, END, FIRST_TABLE, LAST_TABLE, PAIR_WORDS, PAIRS, SLOPE, TABLE_WORDS,
+    bad_digit, decimal,
 };
 
 // A ramp and the soak behind it: segments 2i + 1 and 2i + 2.
@@ -18,6 +18,7 @@ pub struct Pair {
     pub deviation: u16, // of the PV in the soak, in counts; 0 for none
 }
 
+// No Option: word 29 stands with and without a program, and a sample is judged by the two tests in either case.
 #[derive(Clone, Copy)]
 pub struct Program {
     pub on: bool, // bit 11 is on and the pointer good
@@ -27,7 +28,7 @@ pub struct Program {
     pub pair: Pair, // the one in which the carried segment stands
 }
 
-// G2: what is wrong with a table's address: 1 below, 2 above, else 0.
+// G2: what is wrong with a table's address, as word 29 tells it to C: 1 below, 2 above, else 0.
 #[tactic(auto, unfolding(crate::specs::Programs::fault_of))]
 fn fault_of(at: u16) -> u16
     ensures { result ≡ fault_of at }
@@ -59,11 +60,10 @@ pub fn table_at(words: &[u16], at: usize) -> &[u16; TABLE_WORDS]
 
 // G1: the eight pairs of a table, each of four words.
 #[tactic(auto, unfolding(crate::specs::Programs::pairs_of))]
-fn pairs(table: &[u16; TABLE_WORDS]) -> &[[u16; PAIR_WORDS]]
-    ensures value { result.now ≡ pairs_of table.now }
-    ensures eight { length result.now ≡ 8 }
+fn pairs(table: &[u16; TABLE_WORDS]) -> &[[u16; PAIR_WORDS]; PAIRS]
+    ensures { result.now ≡ pairs_of table.now }
 {
-    table.as_chunks().0
+    table.as_chunks().0.try_into().unwrap()
 }
 
 // The i-th pair of a table, from 0.

@@ -5,6 +5,7 @@ ghost use Rattle.reading.specs.Transfers.{major_of, limits_at, major_in};
 use crate::settings::OutputLimits;
 use table::{FIRST_FREE, LOOP_WORDS, OUTPUT, OUTPUT_HIGH, OUTPUT_LOW, base_of, word_at};
 
+// No Option: there are three cases, and `claims/specs/Calls.major_at` and `judging/specs/Judging/Laws.MajorGood` have the 0.
 #[derive(Clone, Copy)]
 pub struct Major {
     pub number: u8, // 0 without a transfer, and where the pointer is no other loop's output word

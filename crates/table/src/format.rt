@@ -4,6 +4,7 @@ ghost use Rattle.table.specs.Words.{format_by, input_format, output_format};
 
 use crate::words::bit;
 
+// No enum: all that is asked of a format is its full scale, a number to compute with.
 #[derive(Clone, Copy)]
 pub struct Format {
     pub scale: u16,

@@ -5,6 +5,7 @@ ghost use Rattle.table.specs.Words.{bit, bcd, bad_digit, clear_requests, flag_of
 use crate::offsets::LOOP_WORDS;
 
 // W3: four BCD digits as a number: the word less what a digit's place has too much, 16 for 10.
+#[tactic(auto, unfolding(crate::specs::Words::bcd))]
 pub fn decimal(word: u16) -> u16
     ensures { result ≡ bcd word }
 {
@@ -12,6 +13,7 @@ pub fn decimal(word: u16) -> u16
 }
 
 // N7: whether one of the four digits is above 9.
+#[tactic(auto, unfolding(crate::specs::Words::bad_digit))]
 pub fn bad_digit(word: u16) -> bool
     ensures { result ≡ bad_digit word }
 {

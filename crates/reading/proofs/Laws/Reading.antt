@@ -89,34 +89,6 @@ reading_own ws ws' k k' former words pointed major limits fault table =
     = settings_besides _ _ (λ i few other. block_at_lem ws (base_of k) i few ∙ words i few other ∙ sym (block_at_lem ws' (base_of k') i few)) in
     rw (← settings) (rw (chosen _ pointed, major_local ws ws' _ k k' _ major limits, program_own ws (table_of ws k) _ _ ws' (table_of ws' k') _ fault table) refl)
 
--- ---- a transfer is requested
-
--- with the Cascade bit on, Automatic before and none of the others
-pub by_request : (bits : Mode1) (former : Mode) → bits.cascade ≡ true
-    → transfers former (mode_after bits former) bits.bumpless ≡ (is_automatic former && not bits.manual && not bits.automatic && not bits.bumpless)
-unfolding transfers mode_after
-by_request bits former e = rw e (go bits.manual bits.automatic (is_automatic former))
-  where
-    go : (m a x : Bool) → (x && is_cascade (cond m Manual (cond a Automatic Cascade)) && not bits.bumpless) ≡ (x && not m && not a && not bits.bumpless)
-    go true a true = refl
-    go true a false = refl
-    go false true true = refl
-    go false true false = refl
-    go false false true = refl
-    go false false false = refl
-
--- and without it there is none
-pub no_request : (bits : Mode1) (former : Mode) → bits.cascade ≡ false → transfers former (mode_after bits former) bits.bumpless ≡ false
-unfolding transfers mode_after
-no_request bits former e = rw e (go former bits.manual bits.automatic)
-  where
-    go : (f : Mode) (m a : Bool) → (is_automatic f && is_cascade (cond m Manual (cond a Automatic f)) && not bits.bumpless) ≡ false
-    go Manual m a = refl
-    go Cascade m a = refl
-    go Automatic true a = refl
-    go Automatic false true = refl
-    go Automatic false false = refl
-
 -- ---- what is known of every reading
 
 -- W2: the settings s are read of the loop's words, `w i` being word i
