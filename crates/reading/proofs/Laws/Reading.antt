@@ -1,25 +1,22 @@
 -- The laws of a reading: what it depends on, and what its words are.
-use Rattle.std.specs.Prelude.{ℕ, ◌+◌, ◌≤◌, ◌<◌, ◌≡◌, refl, Bool, true, false, cond, not, ◌&&◌, List, [], ◌∷◌}
+use Rattle.std.specs.Prelude.{ℕ, ◌+◌, ◌≤◌, ◌<◌, ◌≡◌, refl, Bool, true, false, cond, List, [], ◌∷◌}
 use Rattle.std.proofs.Common.{arith, sym, ◌∙◌, lit<}
 use Rattle.std.proofs.Math.Path.{ap}
 use Rattle.std.proofs.Math.ListN.{get_or}
-use Rattle.table.specs.declared.mode.Mode.{Mode}
-use Rattle.table.specs.declared.mode.Mode.TheVariants.{Manual, Automatic, Cascade}
-use Rattle.reading.specs.declared.settings.Mode1.{Mode1}
 use Rattle.reading.specs.declared.settings.Settings.{Settings}
 use Rattle.reading.specs.declared.reading.Former.{Former}
 use Rattle.reading.specs.declared.reading.Reading.{Reading}
 use Rattle.table.specs.Words.{bit, bcd, bad_digit, input_format, output_format, base_of, block_at, any}
 use Rattle.table.specs.Words.Laws.{block_at_lem, Scaled, input_scaled, output_scaled}
-use Rattle.table.specs.Modes.{is_automatic, is_cascade}
+use Rattle.table.specs.Modes.{is_cascade}
 use Rattle.reading.specs.Settings.{mode1_of, mode2_of, unused_bits, bad_digits, tuning_of, settings_of}
 use Rattle.reading.specs.Settings.Laws.{Decimals, tuning_high}
 use Rattle.reading.proofs.Laws.Transfers.{only_cascade, major_local}
 use Rattle.reading.specs.Programs.{fault_of}
 use Rattle.reading.specs.Premises.{Fair}
 use Rattle.reading.proofs.Laws.Programs.{good_address, program_on, program_own, program_fair}
-use Rattle.reading.specs.Transfers.{transfers, major_of}
-use Rattle.reading.specs.Reading.{mode_after, remote_of, table_of, reading_of}
+use Rattle.reading.specs.Transfers.{major_of}
+use Rattle.reading.specs.Reading.{remote_of, table_of, reading_of}
 
 -- ---- what a reading depends on
 
