@@ -132,7 +132,7 @@ pub(crate) fn read_program(words: &[u16], bit: bool, at: u16, scale: u16, segmen
     if bit {
         let fault = fault_of(at);
         if fault == 0 {
-            let table = table_at(words, at as usize);
+            let table = table_at(words, usize::from(at));
             Program {
                 on: true,
                 fault,

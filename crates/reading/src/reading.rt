@@ -59,7 +59,7 @@ fn read_remote(words: &[u16], mode: Mode, pointer: u16) -> u16
     ensures { result ≡ remote_of words.now mode pointer }
 {
     if mode.is_cascade() {
-        word_at(words, pointer as usize)
+        word_at(words, usize::from(pointer))
     } else {
         0
     }

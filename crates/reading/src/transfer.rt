@@ -17,9 +17,12 @@ pub struct Major {
 fn major_of(number: u8, pointer: u16) -> u8
     ensures { result ≡ major_of number pointer }
 {
-    let at = pointer as usize;
+    let at = usize::from(pointer);
     let major = at / LOOP_WORDS + 1;
-    if ((pointer as u64) < FIRST_FREE) & (at % LOOP_WORDS == OUTPUT) & (major != number as usize) {
+    if (u64::from(pointer) < FIRST_FREE)
+        & (at % LOOP_WORDS == OUTPUT)
+        & (major != usize::from(number))
+    {
         major as u8
     } else {
         0

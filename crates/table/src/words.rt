@@ -24,7 +24,7 @@ pub fn bad_digit(word: u16) -> bool
 pub fn base_of(k: u8) -> usize
     ensures { result ≡ base_of k }
 {
-    LOOP_WORDS * (k as usize).saturating_sub(1)
+    LOOP_WORDS * usize::from(k).saturating_sub(1)
 }
 
 // The word at an address; 0 where there is none.
