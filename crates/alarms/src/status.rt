@@ -1,13 +1,13 @@
 // The status word and its twelve bits.
-ghost use Rattle.std.specs.Prelude.{◌≡◌, cond, ◌/◌, ◌%◌, ◌<◌, ◌==◌};
+ghost use Rattle.std.specs.Prelude.{◌≡◌, cond, ◌^◌, ◌<◌};
 ghost use Rattle.numbers.specs.Distances.{apart};
-ghost use Rattle.table.specs.Words.{flag_of};
+ghost use Rattle.table.specs.Words.{bit, flag_of};
 ghost use Rattle.alarms.specs.Status.{high_alarm, low_alarm, bits_word, bits_of, status_of};
 ghost use Rattle.alarms.specs.Sums.{Valued, mode_bit, level_bits, deviation_bits};
 
 use crate::alarm::{contradiction, high_alarm, low_alarm, rate_alarm, saturated};
 use reading::{AlarmLimits, Mode1, OutputLimits};
-use table::{Mode, flag};
+use table::{Mode, bit, flag};
 
 // What the status word tells of one sample.
 #[derive(Clone, Copy)]
@@ -38,34 +38,22 @@ struct Watched {
 }
 
 impl Watched {
-    // Whether the alarm was on: its bit, of the value `bit`.
-    fn was(self, bit: u16) -> bool
-        requires { 0 < bit }
-        ensures { result ≡ (self.stored / bit % 2 == 1) }
+    // B2, B3: what the low alarm of bit k adds to the word.
+    fn low(self, k: u32, limit: u16) -> u16
+        requires { k < 16 }
+        ensures { Valued result (flag_of (low_alarm (bit k self.stored) limit self.hysteresis self.x) (2 ^ k)) (2 ^ k) }
     {
-        self.stored / bit % 2 == 1
+        let on = low_alarm(bit(self.stored, k), limit, self.hysteresis, self.x);
+        flag(on, 1 << k)
     }
 
-    // B2, B3: the value of a low alarm's bit, where it is on.
-    fn low(self, bit: u16, limit: u16) -> u16
-        requires { 0 < bit }
-        ensures { Valued result (flag_of (low_alarm (self.stored / bit % 2 == 1) limit self.hysteresis self.x) bit) bit }
+    // B2 to B4: what the high one does.
+    fn high(self, k: u32, limit: u16) -> u16
+        requires { k < 16 }
+        ensures { Valued result (flag_of (high_alarm (bit k self.stored) limit self.hysteresis self.x) (2 ^ k)) (2 ^ k) }
     {
-        flag(
-            low_alarm(self.was(bit), limit, self.hysteresis, self.x),
-            bit,
-        )
-    }
-
-    // B2 to B4: of a high one.
-    fn high(self, bit: u16, limit: u16) -> u16
-        requires { 0 < bit }
-        ensures { Valued result (flag_of (high_alarm (self.stored / bit % 2 == 1) limit self.hysteresis self.x) bit) bit }
-    {
-        flag(
-            high_alarm(self.was(bit), limit, self.hysteresis, self.x),
-            bit,
-        )
+        let on = high_alarm(bit(self.stored, k), limit, self.hysteresis, self.x);
+        flag(on, 1 << k)
     }
 }
 
@@ -81,10 +69,10 @@ fn level_bits(on: bool, limits: AlarmLimits, stored: u16, pv: u16) -> u16
         hysteresis: limits.hysteresis,
         x: pv,
     };
-    level.low(8, limits.lowlow)
-        + level.low(16, limits.low)
-        + level.high(32, limits.high)
-        + level.high(64, limits.highhigh)
+    level.low(3, limits.lowlow)
+        + level.low(4, limits.low)
+        + level.high(5, limits.high)
+        + level.high(6, limits.highhigh)
 }
 
 // B4, B3: bits 7 and 8, where the deviation is watched.
@@ -100,7 +88,7 @@ fn deviation_bits(on: bool, limits: AlarmLimits, stored: u16, setpoint: u16, pv:
         hysteresis: limits.hysteresis,
         x: setpoint.abs_diff(pv),
     };
-    deviation.high(128, limits.yellow) + deviation.high(256, limits.red)
+    deviation.high(7, limits.yellow) + deviation.high(8, limits.red)
 }
 
 // Word 6 after a sample: `mode` is the one of A2, `stored` the word before the sample. It takes the parts that it
