@@ -40,12 +40,12 @@ is_beside ns size = tests_beside ns ranges 0 false (omega arith)
 
 -- ---- a turn of the loop, and its end
 
-pub beside_more : (ns ms : List ℤ) (rows rests : List (ℤ × ℤ)) (n : ℤ) (row : ℤ × ℤ) (b : Bool) → ns ≡ n ∷ ms → rows ≡ row ∷ rests
-    → outside_row (row.0 to row.1) n ≡ false → beside ns rows ≡ b → beside ms rests ≡ b
-beside_more ns ms rows rests n row b e f inside h = rw (e, f, inside) at h
+pub beside_more : (ns ms : List ℤ) (rows rests : List (ℤ × ℤ)) (n : ℤ) (row : ℤ × ℤ) (found b : Bool) → ns ≡ n ∷ ms → rows ≡ row ∷ rests
+    → (found || beside ns rows) ≡ b → ((found || outside_row (row.0 to row.1) n) || beside ms rests) ≡ b
+beside_more ns ms rows rests n row found b e f h = or_assoc found (outside_row (row.0 to row.1) n) (beside ms rests) ∙ rw (e, f) at h
 
-pub beside_end : (ns : List ℤ) (rows : List (ℤ × ℤ)) (b : Bool) → (length ns ≡ 0) ⊎ (length rows ≡ 0) → beside ns rows ≡ b → false ≡ b
-beside_end [] rows b e h = h
-beside_end (n ∷ ns) [] b e h = h
-beside_end (n ∷ ns) (row ∷ rows) b (inl e) h = absurd (omega (arith, e))
-beside_end (n ∷ ns) (row ∷ rows) b (inr e) h = absurd (omega (arith, e))
+pub beside_end : (ns : List ℤ) (rows : List (ℤ × ℤ)) (found b : Bool) → (length ns ≡ 0) ⊎ (length rows ≡ 0) → (found || beside ns rows) ≡ b → found ≡ b
+beside_end [] rows found b e h = sym (or_off found) ∙ h
+beside_end (n ∷ ns) [] found b e h = sym (or_off found) ∙ h
+beside_end (n ∷ ns) (row ∷ rows) found b (inl e) h = absurd (omega (arith, e))
+beside_end (n ∷ ns) (row ∷ rows) found b (inr e) h = absurd (omega (arith, e))

@@ -87,12 +87,11 @@ fn mode_from(n: i64) -> Mode
 pub fn out_of_range(n: [i64; FIELDS]) -> bool
     ensures { result ≡ out_of_range n }
 {
+    let mut found = false;
     for (n, (low, high)) in n.iter().zip(&RANGES) {
-        if (*n < *low) | (*high < *n) {
-            return true;
-        }
+        found |= (*n < *low) | (*high < *n);
     }
-    false
+    found
 }
 
 // The profile that numbers in range stand for.

@@ -13,8 +13,8 @@ loop-n-init c =
 
 pub loop-n-preserved : goal.loop-n-preserved
 loop-n-preserved c =
-    let inside = rw (back {z = c.in-Some.n.now} (search rules), back {z = c.in-Some.field-0-1.now.0} (search rules), back {z = c.in-Some.field-0-1.now.1} (search rules)) at c.if-n-low.false in
-    beside_more _ _ _ _ _ _ _ c.in-Some.ensures.steps.0 c.in-Some.ensures.steps.1 inside c.loop-n.invariant
+    rw (back {z = c.in-Some.n.now} (search rules), back {z = c.in-Some.field-0-1.now.0} (search rules), back {z = c.in-Some.field-0-1.now.1} (search rules))
+    (beside_more _ _ _ _ _ _ _ _ c.in-Some.ensures.steps.0 c.in-Some.ensures.steps.1 c.loop-n.invariant)
 
 pub returns : goal.returns
-returns c = beside_end _ _ _ (elim c.in-None.ensures.steps [ inl e ↦ inl e.1.0 | inr e ↦ inr e.1.0 ]) c.loop-n.invariant
+returns c = beside_end _ _ _ _ (elim c.in-None.ensures.steps [ inl e ↦ inl e.1.0 | inr e ↦ inr e.1.0 ]) c.loop-n.invariant
