@@ -78,7 +78,8 @@ fn put_said(line: &mut Writer, item: Result<Record, Refusal>, number: u8, shown:
     }
 }
 
-// The line of the nth record, n having at most five digits.
+// The line of the nth record, n having at most five digits. The number stays one: `line_text` has a line for any, and a `Refusal` in
+// its place would ask more of a caller.
 pub fn put_line(
     line: &mut Writer,
     n: usize,

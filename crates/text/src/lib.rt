@@ -8,7 +8,7 @@ ghost use Rattle.std.specs.Prelude.{◌≡◌, [], ◌∷◌, ◌<◌, length};
 ghost use Rattle.text.specs.Text.{decimal_of, two_digits, hex_digit, hex_of};
 ghost use Rattle.text.specs.Writing.{HasRoom, Writes};
 
-// Not `Drop`: `end` gives the buffer back.
+// The buffer is lent and its place stands beside it, since there is no heap for a `Vec`. Not `Drop`: `end` gives the buffer back.
 pub struct Writer<'a> {
     pub out: &'a mut [u8],
     pub at: usize,
@@ -61,7 +61,8 @@ impl<'a> Writer<'a> {
         self.text(&[(48 + n / 10) as u8, (48 + n % 10) as u8]);
     }
 
-    // A number below 100 in decimal.
+    // A number below 100 in decimal. This and the next two differ in a number alone and stay three: in one function each would call
+    // itself, which nothing that a drill reaches does, and a const parameter would have to be computed.
     fn up_to_two(&mut self, n: u32)
         requires room { HasRoom self.old (length (decimal_of n)) }
         requires small { n < 100 }
