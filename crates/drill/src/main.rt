@@ -14,7 +14,7 @@ const HELP: &[u8] =
 
 // The lines of a drill file.
 fn print_lines(stdout: &mut Stdout, teller: &mut Teller<'_, Stderr>, file: &[u8]) {
-    let mut out = session::buffer::<OUTPUT>();
+    let mut out = session::buffer::<OUTPUT>(); // no heap: a buffer, and the count of its bytes
     let n = session::drill(file, &mut out);
     programs::write(stdout, teller, &out[..n]);
 }

@@ -16,7 +16,7 @@ const HELP: &[u8] =
     What cannot be read or written is told on standard error, and that line is the only sign: the exit status is always 0\n";
 
 fn write_file(stdout: &mut Stdout, teller: &mut Teller<'_, Stderr>, file: &[u8]) {
-    let mut out = [0u8; ROOM];
+    let mut out = [0u8; ROOM]; // no heap: a buffer, and the count of its bytes
     let n = hand_on(file, &mut out);
     programs::write(stdout, teller, &out[..n]);
     if LONGEST < file.len() {
