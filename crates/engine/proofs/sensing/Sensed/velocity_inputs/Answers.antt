@@ -1,6 +1,6 @@
 -- `engine::velocity_inputs` meets its contract: the change less the change before is the second difference, and nothing wraps.
 use borrow.Author.Rules.{rules}
-use mathlib.Core.Path.{◌≡◌, ap, ◌∙◌}
+use mathlib.Core.Path.{◌≡◌}
 use native.Mathlib.Omega.{arith}
 use Prim.Native.Nat.{ℕ, ◌*◌, ◌≤◌}
 use lib.IntN.{ℤ, pos, ◌+ℤ◌, ◌-ℤ◌}
@@ -31,8 +31,7 @@ second-difference p last prior =
 -- what the two calls give, and that it fits
 exact : (p last prior : ℕ) {change before : ℤ} → change ≡ pos p -ℤ pos last → before ≡ pos last -ℤ pos prior
     → change -ℤ before ≡ (pos p -ℤ pos (2 * last)) +ℤ pos prior
-exact p last prior {change} {before} h k =
-    ap (λ (z : ℤ). z -ℤ before) h ∙ ap (λ (z : ℤ). (pos p -ℤ pos last) -ℤ z) k ∙ second-difference p last prior
+exact p last prior h k = rw (h, k) (second-difference p last prior)
 
 exact-fits : (p last prior : ℕ) {z : ℤ} → p ≤ 65535 → last ≤ 65535 → prior ≤ 65535 → z ≡ (pos p -ℤ pos (2 * last)) +ℤ pos prior → SFits w64 z
 exact-fits p last prior h k l e =
