@@ -1,5 +1,6 @@
 -- What is known of an accepted sample: premises of the engine's functions. `Usable` follows from acceptance (`Steps/Laws.usable`), and the
--- others from it and from a record in range.
+-- others from it and from a record in range. What they say of a format, a tuning, a profile or a drive is no ghost field there: `judging::judge`
+-- and `measuring::measure` take any reading, `carried::numbers_of` any record.
 use Rattle.std.specs.Prelude.{ℕ, ◌^◌, ◌≤◌, ◌<◌, not, ◌||◌, ℤ, pos, nat_abs, ◌≤ℤ◌}
 use Rattle.numbers.specs.Rounding.{units_of}
 use Rattle.reading.specs.declared.settings.Settings.{Settings}

@@ -7,7 +7,7 @@ ghost use Rattle.engine.specs.Premises.{Drivable};
 
 use crate::sensing::Sensed;
 use carried::{Carried, Past};
-use control::{Drive, Inputs, Limits, Terms};
+use control::{Drive, Inputs, Limits};
 use reading::{Mode2, Reading, Settings};
 
 // A4, A10: word 5 brought inside the output limits.
@@ -44,15 +44,6 @@ fn kept_in(m: Mode2, kept: Past) -> Past
         prior: control::output_counts(m, kept.prior),
         ..kept
     }
-}
-
-// A7: the terms of a sample with the loop's settings.
-#[tactic(auto, unfolding(crate::specs::Driving::terms_in))]
-fn terms_in(s: Settings, inputs: Inputs) -> Terms
-    requires { Tuned s.tuning × Bounded inputs }
-    ensures { result ≡ terms_in s inputs }
-{
-    control::terms_of(s.tuning, s.mode2.minutes, s.mode1.reverse, inputs)
 }
 
 impl Sensed {
@@ -113,13 +104,13 @@ impl Sensed {
     }
 }
 
-// A8 or A9, by the form.
-#[tactic(auto, unfolding(crate::specs::Driving::moved_in))]
+// A7, and A8 or A9 by the form.
+#[tactic(auto, unfolding(crate::specs::Driving::moved_in, crate::specs::Driving::terms_in))]
 fn moved_in(s: Settings, drive: Drive, inputs: Inputs) -> Drive
     requires { Tuned s.tuning × Bounded inputs × Ready drive (terms_in s inputs) (low_units s) (high_units s) }
     ensures { result ≡ moved_in s drive inputs }
 {
-    let terms = terms_in(s, inputs);
+    let terms = control::terms_of(s.tuning, s.mode2.minutes, s.mode1.reverse, inputs);
     let limits = Limits {
         low: numbers::units(s.limits.low),
         high: numbers::units(s.limits.high),

@@ -16,7 +16,8 @@ pub struct Stepped {
     pub carried: Carried,
 }
 
-// A sample that was judged and accepted, with its PV, of a loop whose record is in range.
+// A sample that was judged and accepted, with its PV, of a loop whose record is in range. Reading, record, what is sensed
+// and the held word stay parameters, as in the definitions: each step takes others of them, so a struct of all is no plainer.
 #[tactic(auto, unfolding(crate::specs::Steps::step_of))]
 pub fn step(reading: Reading, carried: Carried, pv: u16) -> Stepped
     requires { Usable reading pv × Ranged carried }
