@@ -32,7 +32,8 @@ pub struct Step {
     pub next: usize,
 }
 
-// L1: the word at a position, the low byte first.
+// L1: the word at a position, the low byte first. File and position stay two parameters here and below, as in `read_record`,
+// which is public, and in the definitions.
 fn word(file: &[u8], at: usize) -> u16
     requires { at + 2 ≤ length file.now }
     ensures { result ≡ word_at file.now at }

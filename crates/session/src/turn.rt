@@ -7,6 +7,7 @@ ghost use Rattle.session.specs.Session.{left_for, acted_for, answer_in};
 use reader::Record;
 use refusals::Refusal;
 
+// The words and the numbers stay two parameters, as C lends them and as the desk's calls take them.
 // What is shown of the loop of a sample that is carried out, and four zeros of a store; or why the record is refused.
 #[tactic(auto, using(crate::specs::Session::Laws::sample_shown, crate::specs::Session::Laws::sample_refused), unfolding(desk::specs::Lists::answer_to, desk::specs::Lists::desk_after))]
 pub(crate) fn act(
