@@ -20,7 +20,8 @@ pub(crate) fn high_alarm(was: bool, limit: u16, hysteresis: u16, x: u16) -> bool
     u32::from(limit) < u32::from(x) + margin(was, hysteresis)
 }
 
-// B2: on where x is smaller than the limit, or with the hold than the sum.
+// B2: on where x is smaller than the limit, or with the hold than the sum. One function for both would take the order
+// as a parameter, and be no plainer than two comparisons.
 pub(crate) fn low_alarm(was: bool, limit: u16, hysteresis: u16, x: u16) -> bool
     ensures { result ≡ low_alarm was limit hysteresis x }
 {

@@ -18,7 +18,7 @@ pub struct Seen {
     pub output: u16, // word 5 as written
 }
 
-// B1: bits 0 to 2.
+// B1: bits 0 to 2. A match and no From: the word is B1's, and Mode is of another crate.
 fn mode_bit(mode: Mode) -> u16
     ensures { Valued result (mode_bit mode) 4 }
 {

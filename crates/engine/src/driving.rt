@@ -91,7 +91,7 @@ impl Sensed {
         }
     }
 
-    // What they act on in the loop's form.
+    // What they act on in the loop's form: a bool, as the public fields Mode1.velocity and State.velocity are.
     fn inputs_for(self, velocity: bool, past: Past) -> Inputs
         requires { (nat_abs past.error ≤ 65535) × (nat_abs self.error ≤ 65535) }
         ensures { result ≡ inputs_of velocity past self.converted self.error }

@@ -37,7 +37,7 @@ fn output_word(manual: bool, held: u16, drive: Drive) -> u16
     }
 }
 
-// A10: word 4. `kept` where nothing writes it.
+// A10: word 4. `kept` where nothing writes it: it chooses between two words, and both are there, so it is no Option.
 #[tactic(auto, unfolding(crate::specs::Writing::bias_word))]
 fn bias_word(kept: bool, stored: u16, scale: u16, drive: Drive) -> u16
     ensures { result ≡ bias_word kept stored scale drive.bias }
