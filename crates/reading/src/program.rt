@@ -1,6 +1,5 @@
 // A loop's ramp/soak program: what a sample reads of the profile's table, which word 28 points to (G1, G2).
-ghost use Rattle.std.specs.List.{list_any};
-ghost use Rattle.std.specs.Prelude.{take, drop, get_or, ltb, ◌||◌, ◌≡◌, ◌+◌, ◌≤◌, ◌<◌, length};
+ghost use Rattle.std.specs.Prelude.{fold, false, take, drop, get_or, ltb, ◌||◌, ◌≡◌, ◌+◌, ◌≤◌, ◌<◌, length};
 ghost use Rattle.table.specs.Words.{block_at, bad_digit};
 ghost use Rattle.reading.specs.Programs.{fault_of, pair_at, pairs_of, pair_number, bad_digit_in, high_end_in, no_program, program_of};
 
@@ -88,20 +87,22 @@ fn pair_number(segment: u8) -> usize
     usize::from(segment).saturating_sub(1) / 2
 }
 
-// N7: one of the eight slopes and eight durations has a digit above 9.
+// N7: one of the eight slopes and eight durations has a digit above 9. `any` ends early: its branch at each pair costs more.
 fn bad_digit_in(table: &[u16; TABLE_WORDS]) -> bool
-    ensures { result ≡ list_any (λ pair. bad_digit (get_or pair 1 0) || bad_digit (get_or pair 2 0)) (pairs_of table.now) }
+    ensures { result ≡ fold (λ found pair. found || (bad_digit (get_or pair 1 0) || bad_digit (get_or pair 2 0))) false (pairs_of table.now) }
 {
-    pairs(table)
-        .iter()
-        .any(|pair| bad_digit(pair[SLOPE]) | bad_digit(pair[DURATION]))
+    pairs(table).iter().fold(false, |found, pair| {
+        found | (bad_digit(pair[SLOPE]) | bad_digit(pair[DURATION]))
+    })
 }
 
 // N8: one of the eight ends is above full scale.
 fn high_end_in(table: &[u16; TABLE_WORDS], scale: u16) -> bool
-    ensures { result ≡ list_any (λ pair. ltb scale (get_or pair 0 0)) (pairs_of table.now) }
+    ensures { result ≡ fold (λ found pair. found || ltb scale (get_or pair 0 0)) false (pairs_of table.now) }
 {
-    pairs(table).iter().any(|pair| scale < pair[END])
+    pairs(table)
+        .iter()
+        .fold(false, |found, pair| found | (scale < pair[END]))
 }
 
 // Bit 11 is off, or the address not good.

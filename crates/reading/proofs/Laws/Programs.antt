@@ -1,10 +1,9 @@
 -- The laws of a program: what it depends on, and what is known of the pair that is read where the table has passed its tests.
-use Rattle.std.specs.Prelude.{ℕ, zero, suc, ◌+◌, ◌*◌, ◌≤◌, ◌<◌, ◌≡◌, Bool, cond, ◌&&◌, ◌||◌, List, [], get_or, take, drop, ltb}
+use Rattle.std.specs.Prelude.{fold, ℕ, zero, suc, ◌+◌, ◌*◌, ◌≤◌, ◌<◌, ◌≡◌, Bool, cond, ◌&&◌, ◌||◌, List, [], get_or, take, drop, ltb}
 use native.Mathlib.Omega.{arith}
-use Rattle.std.specs.List.{list_any}
 use Rattle.std.specs.Simd.{first_chunks}
 use Rattle.std.proofs.Math.Path.{refl}
-use Rattle.std.proofs.Math.Bool.{true, false, or_assoc, or-false}
+use Rattle.std.proofs.Math.Bool.{true, false}
 use Rattle.std.proofs.Math.Dec.{eqb}
 use Rattle.std.proofs.Common.{◌∙◌, ap, eqb→eq, le-ltb, ltb-false, eqb-true, get_or-take, get_or-drop}
 use Rattle.std.proofs.lemmas.Bool.{eqb-false}
@@ -57,14 +56,14 @@ unfolding pairs_of
 pair_word table i j h k = part_word 8 i j table h k
 
 -- the words that the tests read are those of the pairs
-pub ends_by_pair : (scale : ℕ) (table : List ℕ) → high_end_in scale table ≡ list_any (λ pair. ltb scale (get_or pair 0 0)) (pairs_of table)
+pub ends_by_pair : (scale : ℕ) (table : List ℕ) → high_end_in scale table ≡ fold (λ found pair. found || ltb scale (get_or pair 0 0)) false (pairs_of table)
 unfolding high_end_in any_below pairs_of
-ends_by_pair scale table = simp (in_part 0 (omega arith), get_or-drop, or_assoc, or-false)
+ends_by_pair scale table = simp (in_part 0 (omega arith), get_or-drop)
 
 pub digits_by_pair : (table : List ℕ)
-    → bad_digit_in table ≡ list_any (λ pair. bad_digit (get_or pair 1 0) || bad_digit (get_or pair 2 0)) (pairs_of table)
+    → bad_digit_in table ≡ fold (λ found pair. found || (bad_digit (get_or pair 1 0) || bad_digit (get_or pair 2 0))) false (pairs_of table)
 unfolding bad_digit_in any_below pairs_of
-digits_by_pair table = simp (in_part 1 (omega arith), in_part 2 (omega arith), get_or-drop, or_assoc, or-false)
+digits_by_pair table = simp (in_part 1 (omega arith), in_part 2 (omega arith), get_or-drop)
 
 -- ---- a program
 
