@@ -1,7 +1,8 @@
 // Texts written into a lent buffer: single bytes, byte texts, decimal and hexadecimal numbers.
 //
 // A writer has the buffer and the place of the next byte; each call writes its text there and moves on behind it. Every
-// other byte of the buffer stays. The caller shows that the text fits: `specs/Text/Laws` has the lengths.
+// other byte of the buffer stays. The caller shows that the text fits: `specs/Text/Laws` has the lengths. Numbers are not printed
+// by `write!`: std's writer over a slice says how many bytes it took, and `Writes` says which.
 #![tactic(auto)]
 
 ghost use Rattle.std.specs.Prelude.{◌≡◌, [], ◌∷◌, ◌<◌, length};
