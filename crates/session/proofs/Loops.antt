@@ -101,9 +101,6 @@ module _ (s ws₀ : List ℕ) (ns₀ : List ℤ) where
       pub same : length a ≡ length a₀
       pub kept : sets a n (answers_for (lent ws ns) xs) ≡ sets a₀ 0 (answers_for start_desk (records_of s))
 
-    pub start_answering : {xs : List Item} → xs ≡ records_of s → Answering ws₀ ns₀ 0 0 xs a₀
-    start_answering e = record { going = start e; same = refl; kept = rw e refl }
-
     pub answer : {ws ws' : List ℕ} {ns ns' : List ℤ} {n m k : ℕ} {acted : Result (List ℕ) Refusal} {x : Item} {xs rest : List Item} {a a' : List ℕ}
         → Answering ws ns n m xs a → xs ≡ x ∷ rest → Turned x ws ns acted ws' ns' k → a' ≡ set a n (number_of (answer_in acted))
         → Answering ws' ns' (n + 1) (m + k) rest a'
