@@ -14,7 +14,7 @@ pub const FIELDS: usize = 14; // numbers of a record
 
 pub const NUMBERS: usize = LOOPS as usize * FIELDS; // numbers of the buffer
 
-// The place of each number in a record, as in the header.
+// The place of each number in a record, as in the header: the layout is the C interface's.
 const MODE: usize = 0;
 
 const BIAS: usize = 1;

@@ -4,7 +4,8 @@ ghost use Rattle.control.specs.Counts.{output_counts};
 
 use reading::Mode2;
 
-// A count of the input, converted where the output has a format of its own.
+// A count of the input, converted where the output has a format of its own. A scale above 0 is no invariant of the format:
+// `measuring::measure` takes any.
 #[tactic(auto, unfolding(crate::specs::Counts::output_counts))]
 pub fn output_counts(m: Mode2, count: u16) -> u16
     requires { 0 < m.input.scale }

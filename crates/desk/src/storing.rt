@@ -21,7 +21,12 @@ pub fn engine_word(address: u64) -> bool
 
 // Q2. No record is looked at; the numbers are lent whole all the same, as to every call.
 #[tactic(auto, using(crate::proofs::Laws::Desk::sound), unfolding(crate::specs::Desk::store_answer, crate::specs::Desk::store_left))]
-pub fn store(words: &mut [u16], numbers: &mut [i64], address: u64, value: u16) -> Result<(), Refusal>
+pub fn store(
+    words: &mut [u16],
+    numbers: &mut [i64],
+    address: u64,
+    value: u16,
+) -> Result<(), Refusal>
     ensures answer { result ≡ store_answer (lent words.old numbers.old) address }
     ensures left { lent words.new numbers.new ≡ store_left (lent words.old numbers.old) address value }
 {

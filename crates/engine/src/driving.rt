@@ -64,7 +64,7 @@ impl Sensed {
         }
     }
 
-    // A7: what the terms act on in position form.
+    // A7: what the terms act on in position form. It and the next are two, as their definitions are: P and D differ.
     #[tactic(auto, unfolding(crate::specs::Driving::position_inputs))]
     fn position_inputs(self, past: Past) -> Inputs
         ensures { result ≡ position_inputs past self.converted self.error }

@@ -2,7 +2,7 @@
 // include/kexbardi.h declares it.
 //
 // Every function works on memory that the caller lends and keeps nothing between calls. It answers 0,
-// or the number of the refusal; a refusal leaves all lent memory as it was. A `&[T]` is a pointer and
+// or the number of the refusal, and no `Result`, since C calls it; a refusal leaves all lent memory as it was. A `&[T]` is a pointer and
 // then a length for a C caller, a `&mut [T; N]` a pointer.
 #![tactic(auto)]
 

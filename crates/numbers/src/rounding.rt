@@ -7,7 +7,7 @@ use crate::signed::with_sign;
 // Units of a count.
 pub const UNITS: u64 = 262144;
 
-// A10: n / d to the nearest, a half up.
+// A10: n / d to the nearest, a half up. The bounds here and below are of plain numbers: a type for them would only rename them.
 #[tactic(auto, unfolding(crate::specs::Rounding::half_up))]
 pub fn half_up(n: u64, d: u64) -> u64
     requires { (n < 2 ^ 62) × ((0 < d) × (d < 2 ^ 62)) }

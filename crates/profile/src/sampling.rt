@@ -14,7 +14,8 @@ pub struct Profiled {
     pub flags: u16,
 }
 
-// `flags` is word 27 as it stood, `setpoint` that of A4. Without a program word 27 is 0 (G4).
+// `flags` is word 27 as it stood, `setpoint` that of A4: the callers have it and the profile apart. Without a program word 27
+// is 0 (G4).
 #[tactic(auto, unfolding(crate::specs::Samples::sampled_by, crate::specs::Moves::advanced_by, crate::specs::Flags::flags_of))]
 pub fn sample(
     program: Program,

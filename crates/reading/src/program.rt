@@ -14,7 +14,7 @@ pub struct Pair {
     pub end: u16, // where the ramp ends, in counts
     pub slope: u16, // hundredths of a count a second
     pub duration: u16, // of the soak, tenths of a minute
-    pub deviation: u16, // of the PV in the soak, in counts; 0 for none
+    pub deviation: u16, // of the PV in the soak, in counts; 0 for none: the word as it stands, which `deviates` reads
 }
 
 // No Option: word 29 stands with and without a program, and a sample is judged by the two tests in either case.

@@ -53,7 +53,7 @@ fn is_transfer(bits: Mode1, former: Mode) -> bool
     bits.cascade & former.is_automatic() & !bits.manual & !bits.automatic & !bits.bumpless
 }
 
-// A3: the word that the setpoint pointer names, in Cascade; else 0.
+// A3: the word that the setpoint pointer names, in Cascade; else 0, as the definitions have it that read it beside the mode.
 #[tactic(auto, unfolding(crate::specs::Reading::remote_of))]
 fn read_remote(words: &[u16], mode: Mode, pointer: u16) -> u16
     ensures { result ≡ remote_of words.now mode pointer }

@@ -27,7 +27,7 @@ pub fn base_of(k: u8) -> usize
     LOOP_WORDS * usize::from(k).saturating_sub(1)
 }
 
-// The word at an address; 0 where there is none.
+// The word at an address; 0 where there is none, as the definitions have it (`get_or`).
 pub fn word_at(words: &[u16], at: usize) -> u16
     ensures { result ≡ get_or words.now at 0 }
 {
