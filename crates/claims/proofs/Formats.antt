@@ -26,6 +26,7 @@ use Rattle.table.specs.Modes.{is_manual}
 use Rattle.control.specs.Counts.{output_counts}
 use Rattle.control.specs.Errors.{in_deadband, error_of}
 use Rattle.control.specs.Errors.Laws.{squared_toward_zero}
+use Rattle.std.specs.Bool.{then_some}
 use Rattle.alarms.specs.Status.{Status}
 use Rattle.alarms.specs.Status.{status_of, bits_of}
 use Rattle.alarms.specs.Status.{bits_word as statusBits}
@@ -119,7 +120,7 @@ module _ (d : Desk) (k raw : ℕ) (e : number_of (sample_answer d k raw) ≡ 0) 
       let s = r.settings in
       let c = carried_at d.numbers k in
       status_of r.mode s.mode1 s.alarms s.limits s.stored.status
-      (record { pv = word_left d k raw 3; setpoint = word_left d k raw 2; last = c.past.last; sampled = c.sampled; output = word_left d k raw 5 })
+      (record { pv = word_left d k raw 3; setpoint = word_left d k raw 2; last = then_some c.sampled c.past.last; output = word_left d k raw 5 })
 
   word6 : word_left d k raw 6 ≡ statusBits (bits_of bits)
   unfolding step_of written_of status_word
