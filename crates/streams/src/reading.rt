@@ -3,9 +3,9 @@ ghost use Rattle.std.specs.Prelude.{◌≡◌, ◌<◌, length, take, IfOk};
 ghost use Rattle.std.specs.Io.KnownBytes.{Consumes, IsAtEnd};
 ghost use Rattle.streams.specs.Counts.{IsPrefixLen, count_of};
 
-use crate::TRIES;
+use crate::{TRIES, is_interrupted};
 use std::io;
-use std::io::{ErrorKind, Read};
+use std::io::Read;
 
 #[derive(Debug, Drop)]
 pub struct ReadError {
@@ -34,7 +34,7 @@ pub fn read_whole<R: Read>(reader: &mut R, buf: &mut [u8]) -> Result<usize, Read
         match reader.read(&mut buf[count..]) {
             Ok(0) => return Ok(count),
             Ok(n) => count += n,
-            Err(error) if error.kind() == ErrorKind::Interrupted && 0 < tries => tries -= 1,
+            Err(error) if is_interrupted(&error) && 0 < tries => tries -= 1,
             Err(error) => return Err(ReadError { error, count }),
         }
     }

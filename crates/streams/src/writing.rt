@@ -3,9 +3,9 @@ ghost use Rattle.std.specs.Prelude.{◌≡◌, length};
 ghost use Rattle.std.specs.Io.KnownBytes.{Appends};
 ghost use Rattle.streams.specs.Steps.{AppendsStart};
 
-use crate::TRIES;
+use crate::{TRIES, is_interrupted};
 use std::io;
-use std::io::{ErrorKind, Write};
+use std::io::Write;
 
 #[derive(Debug, Drop)]
 pub enum WriteError {
@@ -28,7 +28,7 @@ pub fn write_whole<W: Write>(writer: &mut W, buf: &[u8]) -> Result<(), WriteErro
             Ok(0) if tries == 0 => return Err(WriteError::Stuck),
             Ok(0) => tries -= 1,
             Ok(n) => rest = &rest[n..],
-            Err(error) if error.kind() == ErrorKind::Interrupted && 0 < tries => tries -= 1,
+            Err(error) if is_interrupted(&error) && 0 < tries => tries -= 1,
             Err(error) => return Err(WriteError::Failed(error)),
         }
     }
