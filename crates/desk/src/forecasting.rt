@@ -18,7 +18,7 @@ fn remaining(words: &[u16], number: u8, on: bool, period: u16, p: Profile, setpo
 {
     if on {
         let at = word_at(words, base_of(number) + PROFILE_TABLE);
-        profile::forecast(table_at(words, at as usize), period, p, setpoint)
+        profile::forecast(table_at(words, usize::from(at)), period, p, setpoint)
     } else {
         0
     }

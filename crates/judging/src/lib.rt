@@ -58,21 +58,18 @@ pub fn judge(reading: Reading, raw: u64) -> Result<(), Refusal>
     ensures { result ≡ first_of (setting_cases reading raw) }
 {
     let s = reading.settings;
-    let bits = s.mode1;
-    let tuning = s.tuning;
-    let limits = s.limits;
     let scale = s.mode2.input.scale;
     let cascade = reading.mode.is_cascade();
     if s.baddigit | reading.program.baddigit {
         return Err(Refusal::Digit);
     }
-    if bad_modes(bits, s.mode2.unused, s.alarms.hysteresis) | reading.program.highend {
+    if bad_modes(s.mode1, s.mode2.unused, s.alarms.hysteresis) | reading.program.highend {
         return Err(Refusal::Setting);
     }
-    if bad_times(tuning) {
+    if bad_times(s.tuning) {
         return Err(Refusal::Times);
     }
-    if bad_limits(limits, s.mode2.output.scale) {
+    if bad_limits(s.limits, s.mode2.output.scale) {
         return Err(Refusal::Limits);
     }
     if bad_setpoint(cascade, scale, s.stored.setpoint, s.pointer, reading.remote) {

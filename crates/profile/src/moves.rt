@@ -4,6 +4,7 @@ ghost use Rattle.profile.specs.Moves.{command_of, ended_of, started_of, with_hol
 
 use crate::state::{Moved, Profile};
 use reading::Pair;
+use table::bit;
 
 pub(crate) const SEGMENTS: u8 = 16;
 
@@ -26,13 +27,13 @@ impl Command {
     pub(crate) fn of(flags: u16) -> Command
         ensures { result ≡ command_of flags }
     {
-        if flags % 2 == 1 {
+        if bit(flags, 0) {
             Command::Start
-        } else if flags / 2 % 2 == 1 {
+        } else if bit(flags, 1) {
             Command::Hold
-        } else if flags / 4 % 2 == 1 {
+        } else if bit(flags, 2) {
             Command::Resume
-        } else if flags / 8 % 2 == 1 {
+        } else if bit(flags, 3) {
             Command::Jog
         } else {
             Command::Nothing

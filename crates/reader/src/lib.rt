@@ -86,7 +86,7 @@ pub fn read_record(file: &[u8], at: usize) -> Step
     if bytes < 2 {
         return cut;
     }
-    let n = word(file, at) as usize;
+    let n = usize::from(word(file, at));
     if bytes - 2 < n {
         return cut;
     }

@@ -20,11 +20,11 @@ pub(crate) fn act(
 {
     match item? {
         Record::Store(address, value) => {
-            desk::store(words, numbers, address as u64, value)?;
+            desk::store(words, numbers, u64::from(address), value)?;
             Ok([0; 4])
         }
         Record::Sample(number, raw) => {
-            let line = desk::sample(words, numbers, number as u64, raw as u64)?;
+            let line = desk::sample(words, numbers, u64::from(number), u64::from(raw))?;
             Ok(line.into())
         }
     }
