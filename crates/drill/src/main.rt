@@ -2,7 +2,6 @@
 #![tactic(auto)]
 
 use programs::{Asked, Teller};
-use session::{INPUT, OUTPUT};
 use std::io::{Stderr, Stdout};
 
 const HELP: &[u8] =
@@ -14,7 +13,7 @@ const HELP: &[u8] =
 
 // The lines of a drill file.
 fn print_lines(stdout: &mut Stdout, teller: &mut Teller<'_, Stderr>, file: &[u8]) {
-    let mut out = session::buffer::<OUTPUT>(); // no heap: a buffer, and the count of its bytes
+    let mut out = session::output_buffer(); // no heap: a buffer, and the count of its bytes
     let n = session::drill(file, &mut out);
     programs::write(stdout, teller, &out[..n]);
 }
@@ -23,7 +22,7 @@ fn main(rt: HostRuntime) {
     let mut stdin = rt.stdin();
     let mut stdout = rt.stdout();
     let mut teller = Teller::new(rt.stderr(), b"drill");
-    let mut buffer = session::buffer::<INPUT>();
+    let mut buffer = session::input_buffer();
     match programs::read_input(&rt, &mut stdin, &mut teller, &mut buffer) {
         Asked::File(n) => print_lines(&mut stdout, &mut teller, &buffer[..n]),
         Asked::Help => programs::write(&mut stdout, &mut teller, HELP),

@@ -16,7 +16,10 @@ fn count(way: u32, step: u32) -> u64
     requires { 0 < step }
     ensures { result ≡ count_of way step }
 {
-    1 + u64::from(way.saturating_sub(1) / step)
+    if way == 0 {
+        return 1; // no division: a ramp that stands at its end, and a soak of no length
+    }
+    1 + u64::from((way - 1) / step)
 }
 
 // The samples of the `left` last segments, of which a ramp is the first and begins at `at`. `ramps` and `soaks` are no `for`

@@ -58,12 +58,17 @@ fn asks_help(name: &[u8]) -> bool
     name == b"--help".as_slice()
 }
 
-// What the system says of an argument that is not there, or is no file's name.
-fn no_name(error: FillError) -> io::Error {
-    io::Error::from_raw_os_error(match error {
+// What the system says of an argument that is not there, or is no file's name, is told, and nothing was read.
+fn no_name<E: Write>(teller: &mut Teller<'_, E>, error: FillError) -> Asked
+    ensures asked { result ≡ Asked.Nothing }
+    ensures program { teller.new.program.now ≡ teller.old.program.now }
+{
+    let number = match error {
         FillError::NotPresent => MISSING,
         FillError::TooLong => TOO_LONG,
-    })
+    };
+    teller.tell(b"the file's name", &io::Error::from_raw_os_error(number));
+    Asked::Nothing
 }
 
 fn argument<R: Env + Files, E: Write>(rt: &R, teller: &mut Teller<'_, E>, input: &mut [u8]) -> Asked
@@ -73,10 +78,7 @@ fn argument<R: Env + Files, E: Write>(rt: &R, teller: &mut Teller<'_, E>, input:
     let mut buffer = [0u8; LONGEST_NAME];
     let name = match rt.arg(1, &mut buffer) {
         Ok(n) => &mut buffer[..n],
-        Err(error) => {
-            teller.tell(b"the file's name", &no_name(error));
-            return Asked::Nothing;
-        }
+        Err(error) => return no_name(teller, error),
     };
     if asks_help(name) {
         return Asked::Help;

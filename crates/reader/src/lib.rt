@@ -57,19 +57,37 @@ fn sample(file: &[u8], at: usize) -> Record
     Record::Sample(file[at + 2], word(file, at + 3))
 }
 
-// L6, L7: the record of length n whose bytes are all there, by its kind.
-fn whole(file: &[u8], at: usize, n: usize) -> Result<Record, Refusal>
+// L6, L7: the record of length n whose bytes are all there, by its kind, and the position behind it. Not the item alone: of its
+// eight bytes the compiler makes one number, which it takes apart again at twice the instructions a record.
+fn whole(file: &[u8], at: usize, n: usize) -> Step
     requires { at + n ≤ length file.now }
-    ensures { result ≡ whole_at file.now at n }
+    ensures item { result.item ≡ whole_at file.now at n }
+    ensures next { result.next ≡ at + n }
 {
+    let next = at + n;
     if n < 2 {
-        return Err(Refusal::Kind);
+        return Step {
+            item: Err(Refusal::Kind), // no room for a kind
+            next,
+        };
     }
     match word(file, at) {
-        STORE if n == STORE_LENGTH => Ok(store(file, at)),
-        SAMPLE if n == SAMPLE_LENGTH => Ok(sample(file, at)),
-        STORE | SAMPLE => Err(Refusal::Length),
-        _ => Err(Refusal::Kind),
+        STORE if n == STORE_LENGTH => Step {
+            item: Ok(store(file, at)),
+            next,
+        },
+        SAMPLE if n == SAMPLE_LENGTH => Step {
+            item: Ok(sample(file, at)),
+            next,
+        },
+        STORE | SAMPLE => Step {
+            item: Err(Refusal::Length),
+            next,
+        },
+        _ => Step {
+            item: Err(Refusal::Kind),
+            next,
+        },
     }
 }
 
@@ -90,11 +108,7 @@ pub fn read_record(file: &[u8], at: usize) -> Step
     if bytes - 2 < n {
         return cut;
     }
-    let kind = at + 2;
-    Step {
-        item: whole(file, kind, n),
-        next: kind + n,
-    }
+    whole(file, at + 2, n)
 }
 
 // L8: the records of a file in order.

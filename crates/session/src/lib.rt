@@ -5,5 +5,5 @@ mod printing;
 mod running;
 mod turn;
 
-pub use printing::{INPUT, LONGEST, OUTPUT, buffer, drill};
+pub use printing::{INPUT, LONGEST, OUTPUT, buffer, drill, input_buffer, output_buffer};
 pub use running::{Totals, run};

@@ -85,3 +85,17 @@ pub fn buffer<const N: usize>() -> [u8; N]
 {
     [0; N]
 }
+
+// Room for an input.
+pub fn input_buffer() -> [u8; INPUT]
+    ensures { (result ≡ replicate 65537 0) × (65537 ≡ length result) }
+{
+    buffer::<INPUT>()
+}
+
+// Room for what any input prints.
+pub fn output_buffer() -> [u8; OUTPUT]
+    ensures { (result ≡ replicate 655460 0) × (655460 ≡ length result) }
+{
+    buffer::<OUTPUT>()
+}

@@ -5,7 +5,7 @@ mod handing;
 
 use handing::{ROOM, hand_on};
 use programs::{Asked, Teller};
-use session::{INPUT, LONGEST};
+use session::LONGEST;
 use std::io::{Stderr, Stdout};
 
 const HELP: &[u8] =
@@ -28,7 +28,7 @@ fn main(rt: HostRuntime) {
     let mut stdin = rt.stdin();
     let mut stdout = rt.stdout();
     let mut teller = Teller::new(rt.stderr(), b"setup");
-    let mut buffer = session::buffer::<INPUT>();
+    let mut buffer = session::input_buffer();
     match programs::read_input(&rt, &mut stdin, &mut teller, &mut buffer) {
         Asked::File(n) => write_file(&mut stdout, &mut teller, &buffer[..n]),
         Asked::Help => programs::write(&mut stdout, &mut teller, HELP),

@@ -1,7 +1,7 @@
 // Writing a text whole.
 ghost use Rattle.std.specs.Prelude.{◌≡◌, length};
-ghost use Rattle.std.specs.Io.KnownBytes.{Appends};
-ghost use Rattle.streams.specs.Steps.{AppendsStart};
+ghost use Rattle.std.specs.Io.KnownBytes.{Appends, WriteAppends};
+ghost use Rattle.streams.specs.Steps.{AppendsStart, Within};
 
 use crate::{TRIES, is_interrupted};
 use std::io;
@@ -11,6 +11,14 @@ use std::io::Write;
 pub enum WriteError {
     Failed(io::Error), // which says why
     Stuck, // the last of the tries took no byte, for which there is no error
+}
+
+// One write of `buf`.
+fn write_some<W: Write>(writer: &mut W, buf: &[u8]) -> io::Result<usize>
+    ensures within { Within (length buf.now) result }
+    ensures bytes { WriteAppends (W.contents writer.old) (W.contents writer.new) result buf.now }
+{
+    writer.write(buf)
 }
 
 // Writes all of `buf`. A write that was only interrupted or took no byte is tried again; where the
@@ -24,7 +32,7 @@ pub fn write_whole<W: Write>(writer: &mut W, buf: &[u8]) -> Result<(), WriteErro
     let mut rest = buf;
     let mut tries = TRIES;
     while !rest.is_empty() {
-        match writer.write(rest) {
+        match write_some(writer, rest) {
             Ok(0) if tries == 0 => return Err(WriteError::Stuck),
             Ok(0) => tries -= 1,
             Ok(n) => rest = &rest[n..],

@@ -109,10 +109,11 @@ impl<'a> Writer<'a> {
     {
         let end = self.at + decimal_width(n);
         let mut rest = n;
-        for place in (self.at..end).rev() {
+        for place in (self.at + 1..end).rev() {
             self.out[place] = (48 + rest % 10) as u8;
             rest /= 10;
         }
+        self.out[self.at] = (48 + rest % 10) as u8;
         self.at = end;
     }
 

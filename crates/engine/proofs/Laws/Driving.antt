@@ -10,7 +10,7 @@ use Rattle.reading.specs.declared.settings.Mode2.{Mode2}
 use Rattle.reading.specs.declared.settings.Settings.{Settings}
 use Rattle.control.specs.declared.forms.Drive.{Drive}
 use Rattle.control.specs.declared.terms.Inputs.{Inputs}
-use Rattle.control.specs.Counts.Laws.{counts_word}
+use Rattle.control.specs.Counts.Laws.{counts_word, counts_same}
 use Rattle.control.specs.Premises.{Tuned, Bounded, Ready}
 use Rattle.control.specs.Terms.Laws.{terms_high, terms_still, terms_close}
 use Rattle.control.specs.Forms.{position_of, velocity_of}
@@ -53,6 +53,11 @@ unfolding past_of kept_in
 past_high m word fresh kept e h l g =
     by_test Remembered fresh (λ _. record { last = h; prior = h; error = l })
     (λ _. record { last = counts_word m word g.last; prior = counts_word m word g.prior; error = g.error })
+
+-- with bit 10 off the carried PVs stand as they are
+pub kept_same : (m : Mode2) → m.separate ≡ false → (kept : Past) → kept_in m kept ≡ kept
+unfolding kept_in
+kept_same m off kept = λ i. record { last = counts_same m off kept.last i; prior = counts_same m off kept.prior i; error = kept.error }
 
 -- ---- what the terms act on, and so how large they are
 

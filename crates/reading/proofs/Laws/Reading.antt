@@ -1,22 +1,25 @@
 -- The laws of a reading: what it depends on, and what its words are.
-use Rattle.std.specs.Prelude.{ℕ, ◌+◌, ◌≤◌, ◌<◌, ◌≡◌, refl, Bool, true, false, cond, List, [], ◌∷◌}
+use Rattle.std.specs.Prelude.{ℕ, ◌+◌, ◌≤◌, ◌<◌, ◌≡◌, refl, Bool, true, false, cond, not, ◌&&◌, List, [], ◌∷◌}
 use Rattle.std.proofs.Common.{arith, sym, ◌∙◌, lit<}
 use Rattle.std.proofs.Math.Path.{ap}
 use Rattle.std.proofs.Math.ListN.{get_or}
+use Rattle.table.specs.declared.mode.Mode.{Mode}
+use Rattle.table.specs.declared.mode.Mode.TheVariants.{Manual, Automatic, Cascade}
+use Rattle.reading.specs.declared.settings.Mode1.{Mode1}
 use Rattle.reading.specs.declared.settings.Settings.{Settings}
 use Rattle.reading.specs.declared.reading.Former.{Former}
 use Rattle.reading.specs.declared.reading.Reading.{Reading}
 use Rattle.table.specs.Words.{bit, bcd, bad_digit, input_format, output_format, base_of, block_at, any}
 use Rattle.table.specs.Words.Laws.{block_at_lem, Scaled, input_scaled, output_scaled}
-use Rattle.table.specs.Modes.{is_cascade}
+use Rattle.table.specs.Modes.{is_automatic, is_cascade}
 use Rattle.reading.specs.Settings.{mode1_of, mode2_of, unused_bits, bad_digits, tuning_of, settings_of}
 use Rattle.reading.specs.Settings.Laws.{Decimals, tuning_high}
 use Rattle.reading.proofs.Laws.Transfers.{only_cascade, major_local}
 use Rattle.reading.specs.Programs.{fault_of}
 use Rattle.reading.specs.Premises.{Fair}
 use Rattle.reading.proofs.Laws.Programs.{good_address, program_on, program_own, program_fair}
-use Rattle.reading.specs.Transfers.{major_of}
-use Rattle.reading.specs.Reading.{remote_of, table_of, reading_of}
+use Rattle.reading.specs.Transfers.{transfers, major_of}
+use Rattle.reading.specs.Reading.{mode_after, remote_of, table_of, reading_of}
 
 -- ---- what a reading depends on
 
@@ -85,6 +88,34 @@ reading_own ws ws' k k' former words pointed major limits fault table =
     let settings : settings_of (block_at ws (base_of k)) ≡ settings_of (block_at ws' (base_of k'))
     = settings_besides _ _ (λ i few other. block_at_lem ws (base_of k) i few ∙ words i few other ∙ sym (block_at_lem ws' (base_of k') i few)) in
     rw (← settings) (rw (chosen _ pointed, major_local ws ws' _ k k' _ major limits, program_own ws (table_of ws k) _ _ ws' (table_of ws' k') _ fault table) refl)
+
+-- ---- a transfer is requested
+
+-- with the Cascade bit on, Automatic before and none of the others
+pub by_request : (bits : Mode1) (former : Mode) → bits.cascade ≡ true
+    → transfers former (mode_after bits former) bits.bumpless ≡ (is_automatic former && not bits.manual && not bits.automatic && not bits.bumpless)
+unfolding transfers mode_after
+by_request bits former e = rw e (go bits.manual bits.automatic (is_automatic former))
+  where
+    go : (m a x : Bool) → (x && is_cascade (cond m Manual (cond a Automatic Cascade)) && not bits.bumpless) ≡ (x && not m && not a && not bits.bumpless)
+    go true a true = refl
+    go true a false = refl
+    go false true true = refl
+    go false true false = refl
+    go false false true = refl
+    go false false false = refl
+
+-- and without it there is none
+pub no_request : (bits : Mode1) (former : Mode) → bits.cascade ≡ false → transfers former (mode_after bits former) bits.bumpless ≡ false
+unfolding transfers mode_after
+no_request bits former e = rw e (go former bits.manual bits.automatic)
+  where
+    go : (f : Mode) (m a : Bool) → (is_automatic f && is_cascade (cond m Manual (cond a Automatic f)) && not bits.bumpless) ≡ false
+    go Manual m a = refl
+    go Cascade m a = refl
+    go Automatic true a = refl
+    go Automatic false true = refl
+    go Automatic false false = refl
 
 -- ---- what is known of every reading
 

@@ -4,6 +4,7 @@ use Rattle.std.proofs.Math.Seq.{take-append-add}
 use Rattle.std.specs.Io.KnownBytes.{Consumes}
 use Rattle.std.proofs.KnownBytes.{Consumes-trans}
 use borrow.Rule.Slice.PartMut.{put_mid, post_of}
+use Rattle.streams.specs.Steps.Laws.{fits}
 use Rattle.streams.proofs.reading.read_whole.Goals as goal
 
 -- what was read before, and the first n bytes of the part that was read into
@@ -14,5 +15,5 @@ read_so_far a k n xs ys within fits =
 
 pub loop-count-preserved-in-Ok : goal.loop-count-preserved-in-Ok
 loop-count-preserved-in-Ok g c =
-    let front = read_so_far c.loop-count.count _ c.in-Ok.n c.loop-count.buf c.read.new.buf c.loop-count.invariant.0 c.in-Ok.ensures.bound.0 in
-    (search rules, subst (Consumes _ _) (sym front) (Consumes-trans _ _ _ _ _ c.loop-count.invariant.1 c.in-Ok.ensures.bytes.0))
+    let front = read_so_far c.loop-count.count _ c.in-Ok.n c.loop-count.buf c.read_some.new.buf c.loop-count.invariant.0 (fits _ c.in-Ok.n c.in-Ok.ensures.within) in
+    (search (rules, fits _ c.in-Ok.n c.in-Ok.ensures.within), subst (Consumes _ _) (sym front) (Consumes-trans _ _ _ _ _ c.loop-count.invariant.1 c.in-Ok.ensures.bytes.0))

@@ -1,4 +1,4 @@
--- `text::Writer::long` meets its contract: a turn stores the last digit of the rest (`decimal_more`, `sets_behind`), the last turn its only one (`decimal_one`).
+-- `text::Writer::long` meets its contract: a turn stores the last digit of the rest (`decimal_more`, `sets_behind`), and behind the loop its only one is stored (`decimal_one`).
 use mathlib.Core.Path.{◌≡◌, refl, ap, ◌∙◌}
 use mathlib.Core.Bool.{Bool, true, false}
 use Prim.Native.Nat.{ℕ, ◌+◌, ◌-◌, ◌/◌, ◌≤◌, ◌<◌}
@@ -25,25 +25,22 @@ ones n h = go (ltb n 10) refl
     go true e = ltb-true n 10 e
     go false e = absurd (omega (arith, simp length-append at (ap length (decimal_more n (ltb-false n 10 e))), decimal_some (n / 10)))
 
+pub loop-place-init : goal.loop-place-init
+loop-place-init c = (refl, refl, refl, omega (arith, decimal_some c.args.n), omega arith, refl)
+
 pub loop-place-preserved : goal.loop-place-preserved
 loop-place-preserved c =
     let l = c.loop-place in
     let out = l.self.out.now in
     let at = c.args.self.now.at in
     let i = l.invariant in
-    let behind = i.4 c.loop-place-test.true in (
-      i.0,
-      i.1,
-      simp length-set (omega arith),
-      omega arith,
-      λ h.
-          let e = decimal_more l.rest (tens l.rest (omega (arith, behind.0))) in
-          let p : l.place - 1 ≡ at + length (decimal_of (l.rest / 10)) = omega (arith, behind.0, simp length-append at (ap length e)) in
-          (p, rw p (sets_behind out at (decimal_of (l.rest / 10)) (last_digit l.rest) ∙ (rw e at behind.1))),
-      λ h. let e = decimal_one l.rest (ones l.rest (omega (arith, behind.0))) in rw h (rw e at behind.1),
-    )
+    let e = decimal_more l.rest (tens l.rest (omega (arith, c.loop-place-test.true, i.4))) in
+    let p : l.place - 1 ≡ at + length (decimal_of (l.rest / 10)) = omega (arith, i.4, simp length-append at (ap length e)) in
+    (i.0, i.1, simp length-set i.2, omega arith, p, rw p (sets_behind out at (decimal_of (l.rest / 10)) (last_digit l.rest) ∙ (rw e at i.5)))
 
 pub returns : goal.returns
 returns c =
-    let i = c.loop-place.invariant in
-    record { same = i.1; size = i.2; written = record { buffer = i.5 (omega arith); place = omega arith } }
+    let l = c.loop-place in
+    let i = l.invariant in
+    let e = decimal_one l.rest (ones l.rest (omega (arith, i.4))) in
+    record { same = i.1; size = simp length-set i.2; written = record { buffer = rw i.0 (rw e at i.5); place = omega arith } }

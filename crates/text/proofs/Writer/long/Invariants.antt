@@ -1,7 +1,6 @@
--- `text::Writer::long`: above the first place, writing the digits of the rest there would complete the decimal, and the place is behind them; at the first
--- it is complete.
+-- `text::Writer::long`: writing the digits of the rest at the first place would complete the decimal, and `place` is the place behind them.
 use mathlib.Core.Path.{◌≡◌}
-use Prim.Native.Nat.{◌+◌, ◌≤◌, ◌<◌}
+use Prim.Native.Nat.{◌+◌, ◌<◌}
 use lib.ListN.{length}
 use lib.Seq.{sets}
 use Rattle.text.specs.Text.{decimal_of}
@@ -13,5 +12,4 @@ invariant-loop-place l =
     let start = l.initial.self in
     let at = start.at in
     (l.self.at ≡ at) × (l.self.out.ghost_name ≡ start.out.ghost_name) × (length out ≡ length start.out.now)
-    × (at ≤ l.place) × (at < l.place → (l.place ≡ at + length (decimal_of l.rest)) × (sets out at (decimal_of l.rest) ≡ sets start.out.now at (decimal_of l.n)))
-    × (l.place ≡ at → out ≡ sets start.out.now at (decimal_of l.n))
+    × (at < l.place) × (l.place ≡ at + length (decimal_of l.rest)) × (sets out at (decimal_of l.rest) ≡ sets start.out.now at (decimal_of l.n))
